@@ -1,0 +1,9 @@
+pub mod Runs
+pub mod Ranges
+pub mod Judging
+pub mod Parts
+pub mod Repeats
+pub mod Stages
+pub mod Rising
+pub mod Exact
+pub mod Printed

@@ -1,0 +1,5 @@
+pub mod Words
+pub mod Fields
+pub mod Text
+pub mod Answer
+pub mod Reading

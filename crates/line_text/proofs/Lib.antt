@@ -1,0 +1,6 @@
+pub mod Cuts
+pub mod Numerals
+pub mod Items
+pub mod Signed
+pub mod Plain
+pub mod Printed

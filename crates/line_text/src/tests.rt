@@ -1,0 +1,104 @@
+use crate::{Lines, Words, is_end, push_number, push_ordinals, push_signed_numbers};
+use std::test::Fail;
+
+#[test]
+fn reads_numbers(rt: HostRuntime) {
+    let rows: [(&[u8], Option<u64>); 13] = [
+        (b"0", Some(0)),
+        (b"7 8", Some(7)),
+        (b"1000000000", Some(1_000_000_000)),
+        (b"1000000001", None),
+        (b"18446744073709551616", None),
+        (b"100000000000000000000000000000000000000000", None),
+        (b"00", None),
+        (b"08", None),
+        (b"", None),
+        (b" 7", None),
+        (b"7\r", None),
+        (b"-7", None),
+        (b"+7", None),
+    ];
+    for (line, want) in rows {
+        assert_eq!(rt; Words::new(line).next_number(1_000_000_000), want);
+    }
+}
+
+#[test]
+fn reads_signed_numbers(rt: HostRuntime) {
+    let rows: [(&[u8], Option<i64>); 9] = [
+        (b"0", Some(0)),
+        (b"-1 5", Some(-1)),
+        (b"20000000000", Some(20_000_000_000)),
+        (b"-20000000000", Some(-20_000_000_000)),
+        (b"20000000001", None),
+        (b"-20000000001", None),
+        (b"-0", None),
+        (b"-01", None),
+        (b"--1", None),
+    ];
+    for (line, want) in rows {
+        assert_eq!(rt; Words::new(line).next_signed(20_000_000_000), want);
+    }
+}
+
+#[test]
+fn reads_lists(rt: HostRuntime) -> Result<(), Fail> {
+    let alloc = rt.alloc();
+    let mut words = Words::new(b"plan 1 3 2 -5 0");
+    assert!(rt; words.next_word() == Some(b"plan".as_slice()));
+    assert!(rt; words.next_ordinals(alloc, 4, 3)?.is_none());
+    assert!(rt; words.next_ordinals(alloc, 3, 2)?.is_none());
+    let Some(things) = words.next_ordinals(alloc, 3, 3)? else {
+        panic!(rt; "three numbers up to 3");
+    };
+    assert!(rt; things.as_slice() == [0u16, 2, 1].as_slice());
+    let Some(numbers) = words.next_signed_numbers(alloc, 2, 5)? else {
+        panic!(rt; "two numbers with a sign");
+    };
+    assert!(rt; numbers.as_slice() == [-5i64, 0].as_slice());
+    assert!(rt; words.is_empty());
+    assert!(rt; words.next_word().is_none());
+    Ok(())
+}
+
+#[test]
+fn cuts_lines(rt: HostRuntime) {
+    let mut lines = Lines::new(b"a b\n\nc");
+    assert!(rt; lines.next_line() == Some(b"a b".as_slice()));
+    assert!(rt; lines.next_line() == Some(b"".as_slice()));
+    assert!(rt; lines.next_line() == Some(b"c".as_slice()));
+    assert!(rt; lines.next_line().is_none());
+
+    let ends: [(&[u8], bool); 6] = [
+        (b"end", true),
+        (b"end \t\r", true),
+        (b"end x", false),
+        (b"ends", false),
+        (b"en", false),
+        (b" end", false),
+    ];
+    for (line, want) in ends {
+        assert_eq!(rt; is_end(line), want);
+    }
+
+    let rests: [(&[u8], Option<u64>); 4] = [
+        (b"", None),
+        (b"\n \t\n\r\n", None),
+        (b"x", Some(0)),
+        (b"\n\n x", Some(2)),
+    ];
+    for (text, want) in rests {
+        assert_eq!(rt; Lines::new(text).first_filled(), want);
+    }
+}
+
+#[test]
+fn prints(rt: HostRuntime) -> Result<(), Fail> {
+    let alloc = rt.alloc();
+    let mut text = Vec::new(alloc);
+    push_number(&mut text, 1_000_000_000_000)?;
+    push_ordinals(&mut text, &[0, 1023])?;
+    push_signed_numbers(&mut text, &[0, -20_000_000_000, 7])?;
+    assert!(rt; text.as_slice() == b"1000000000000 1 1024 0 -20000000000 7".as_slice());
+    Ok(())
+}

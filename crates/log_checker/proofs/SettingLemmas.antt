@@ -1,0 +1,25 @@
+-- The limits of what a log is judged by.
+use Rattle.std.proofs.Common.{ℕ, zero, suc, ◌<◌, ◌≤◌, ◌≡◌, List, [], ◌∷◌, length, get_or}
+use Rattle.std.proofs.Common.{All, sym, subst, arith}
+use Rattle.mill_model.specs.Instance.{IsSize, largest}
+
+-- each of some sizes is within the limit, so the largest is
+pub largest-small : (sizes : List ℕ) → All IsSize sizes → largest sizes ≤ 20000
+largest-small [] h = omega arith
+largest-small (size ∷ sizes) h =
+    let first = h 0 0 (omega arith) in
+    let ih : largest sizes ≤ 20000 = largest-small sizes (λ k d l. h (suc k) d (omega arith)) in
+    omega (arith, first.1)
+
+-- a list taken whole is within a limit where each of its numbers is
+pub all-small : (xs ys : List ℕ) (n : ℕ) → ys ≡ xs → length xs ≤ n →
+    ((i : ℕ) → i < n → get_or xs i 0 ≤ 100000000) → All (λ x. x ≤ 100000000) ys
+all-small xs ys n e l h =
+    subst (λ zs. All (λ x. x ≤ 100000000) zs) (sym e) (go xs n l h)
+  where
+    go : (xs : List ℕ) (n : ℕ) → length xs ≤ n → ((i : ℕ) → i < n → get_or xs i 0 ≤ 100000000) →
+        All (λ x. x ≤ 100000000) xs
+    go [] n l h k d q = absurd (omega arith)
+    go (x ∷ xs) n l h zero d q = h 0 (omega arith)
+    go (x ∷ xs) n l h (suc k) d q =
+        go xs (length xs) (omega arith) (λ i m. h (suc i) (omega arith)) k d (omega arith)

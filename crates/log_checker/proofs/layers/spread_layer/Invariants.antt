@@ -1,0 +1,11 @@
+use Rattle.std.proofs.Common.{◌≡◌, ℕ, ◌+◌, ◌*◌, ◌<◌, length, pos, slice_index_or}
+use Rattle.log_checker.specs.Tables.{AreNear}
+use Rattle.log_checker.proofs.layers.spread_layer.Given as goal
+
+abbrev pub invariant-loop-t : goal.invariant-loop-t
+invariant-loop-t l = record {
+  is :
+      (s : ℕ) → s < l.t → (i : ℕ) → i < length l.table →
+      slice_index_or l.tables (s * length l.table + i) (pos 0) ≡ slice_index_or l.table i (pos 0);
+  near : (n : ℕ) → AreNear n l.initial.tables → AreNear n l.table → AreNear n l.tables;
+}

@@ -1,0 +1,9 @@
+pub mod Setting
+pub mod Judged
+pub mod Groups
+pub mod Live
+pub mod Agenda
+pub mod Verdict
+pub mod Tables
+pub mod Keys
+pub mod Slacks

@@ -1,0 +1,36 @@
+-- What a log is judged by, from an instance and a table of charges.
+use Rattle.std.specs.Prelude.{ℕ, ◌+◌, ◌<◌, ◌≤◌, ◌≡◌, All, List, length, slice_index, slice_index_or}
+use Rattle.std.specs.Prelude.{drop, ltb}
+use Rattle.mill_model.specs.Instance.{Problem, IsOrder, mill_of}
+use Rattle.mill_model.specs.LiveKey.{has_colour}
+use Rattle.mill_model.specs.Log.{Task}
+use Rattle.mill_model.specs.Rank.{ranked_orders}
+use Rattle.mill_model.specs.declared.order.Order.{Order}
+
+-- the mill, the charge of each load, and the orders in rank
+abbrev pub task_of : Problem → List ℕ → Task
+task_of problem charges =
+    record {
+      mill = mill_of problem;
+      charge = λ l. slice_index charges l;
+      ranked = ranked_orders problem.orders;
+    }
+
+-- orders in rank, a charge of each load up to the largest size, and the limits of both
+pub record IsSetting (ranked : List Order) (charges : List ℕ) (largest most_colours : ℕ) : Type 0
+  where
+    pub few : length ranked ≤ 1024
+    pub orders : All IsOrder ranked
+    pub reach : length charges ≡ largest + 1
+    pub none : slice_index charges 0 ≡ 0
+    pub small : All (λ charge. charge ≤ 100000000) charges
+    pub size : largest ≤ 20000
+    pub colours : most_colours ≤ 8
+    pub falls :
+        (i j : ℕ) (d : Order) → i ≤ j → j < length ranked →
+        (slice_index_or ranked j d).weight ≤ (slice_index_or ranked i d).weight
+
+-- one more than the last rank of each colour; 0 for a colour that none has
+abbrev pub AreEnds : List Order → List ℕ → Type 0
+AreEnds ranked last =
+    (colour k : ℕ) → has_colour (drop k ranked) colour ≡ ltb k (slice_index last colour)

@@ -1,0 +1,189 @@
+ghost use Rattle.std.specs.Prelude.{◌≡◌, ◌<◌, ◌≤◌, ◌+◌, ◌↔◌, ℕ, [], ◌∷◌, ◌++◌, drop, length, IfOk};
+ghost use Rattle.std.specs.Prelude.{OnOk, IfSome, IfNone, true, false, List, cond, slice_index};
+ghost use Rattle.std.specs.List.{list_all};
+ghost use Rattle.mill_model.specs.Sets.{same_list};
+ghost use Rattle.mill_model.specs.Log.{recorded, left_open, Refutes as LogRefutes};
+ghost use Rattle.refute_log.specs.Rising.{comes_before, rises};
+ghost use Rattle.refute_log.specs.Fits.{path_fits, fits};
+ghost use Rattle.mill_model.specs.Instance.{largest, mill_of};
+ghost use Rattle.mill_model.specs.Plan.{NoneLosesLess};
+ghost use Rattle.log_checker.specs.Setting.{task_of};
+ghost use Rattle.log_checker.specs.Judged.{task_by, mill_by};
+ghost use Rattle.log_checker.specs.Verdict.{is_missing, is_stray, is_unsound, is_wrong, IsFirst};
+ghost use Rattle.log_checker.specs.Verdict.{IsVerdict, verdict_from};
+ghost use Rattle.log_checker.specs.Agenda.{wanted_path, to_come, is_within, is_split, opened_by};
+ghost use Rattle.log_checker.specs.declared.verdict.LogVerdict.TheVariants.{Missing, Stray};
+ghost use Rattle.log_checker.specs.declared.verdict.LogVerdict.TheVariants.{Refutes, Unsound};
+
+use crate::LogVerdict;
+use crate::agenda::Wanted;
+use crate::groups::groups_of;
+use crate::judge::Judge;
+use crate::setting::judge_of;
+use crate::sound::holds_up;
+use crate::tree::open_children;
+use mill_model::{Charges, Closing, Entry, Instance, OutOfMemory, Path};
+use refute_log::{Log, compare};
+use std::alloc::Global;
+use std::cmp::Ordering;
+
+/// The path that is named.
+fn path_of(alloc: Global, log: &[Entry], wanted: Wanted) -> Result<Vec<u16>, OutOfMemory>
+    requires { is_within (length log.now) wanted ≡ true }
+    ensures { IfOk result (λ path. path.items ≡ wanted_path log.now wanted) }
+{
+    match wanted {
+        Wanted::Root => Ok(Vec::new(alloc)),
+        Wanted::Child { parent, group } => {
+            let mut path = log[parent].path.numbers().to_vec(alloc)?;
+            path.push(group)?;
+            Ok(path)
+        }
+    }
+}
+
+/// What is wrong where a record stands at another path than the next one that is wanted.
+fn misplaced(alloc: Global, path: &[u16], entry: &Entry) -> Result<Option<LogVerdict>, OutOfMemory>
+    ensures apart { IfOk result (λ found. IfSome found (λ v.
+        (same_list path.now entry.now.path ≡ false)
+        × (v ≡ cond (comes_before path.now entry.now.path) (Missing path.now)
+        (Stray entry.now.path)))) }
+    ensures same { IfOk result (λ found.
+        IfNone found (same_list path.now entry.now.path ≡ true)) }
+{
+    match compare(path, entry.path.numbers()) {
+        Ordering::Less => Ok(Some(LogVerdict::Missing {
+            path: Path::from_list(path.to_vec(alloc)?),
+        })),
+        Ordering::Greater => Ok(Some(LogVerdict::Stray {
+            path: entry.path.copy()?,
+        })),
+        Ordering::Equal => Ok(None),
+    }
+}
+
+/// Lets the children that a record leaves open wait.
+fn open(
+    alloc: Global,
+    waiting: &mut Vec<Wanted>,
+    judge: &Judge,
+    entry: &Entry,
+    i: usize,
+) -> Result<(), OutOfMemory>
+    requires fits { path_fits (length judge.now.ranked.items) entry.now.path ≡ true }
+    requires split { is_split entry.now.closing ≡ true →
+        length entry.now.path < length judge.now.ranked.items }
+    ensures { OnOk result (waiting.new.items ≡ waiting.old.items
+        ++ opened_by (mill_by judge.now) judge.now.ranked.items entry.now i) }
+{
+    if let Closing::Split = entry.closing {
+        let path = entry.path.numbers();
+        let groups = groups_of(alloc, judge, path)?;
+        open_children(waiting, judge, &groups, path, i)?;
+    }
+    Ok(())
+}
+
+/// Judges one record, where the last waiting path is the next one that is wanted.
+fn step(
+    alloc: Global,
+    waiting: &mut Vec<Wanted>,
+    judge: &Judge,
+    loss: u64,
+    log: &[Entry],
+    i: usize,
+) -> Result<Option<LogVerdict>, OutOfMemory>
+    requires fits { list_all (fits (length judge.now.ranked.items)) log.now ≡ true }
+    requires rising { rises (recorded log.now) ≡ true }
+    requires here { i < length log.now }
+    requires within { list_all (is_within (length log.now)) waiting.old.items ≡ true }
+    ensures found { IfOk result (λ found. IfSome found (λ v. v ≡
+        verdict_from (task_by judge.now) loss log.now (to_come log.now waiting.old.items)
+        (drop i log.now))) }
+    ensures goes { IfOk result (λ found. IfNone found (
+        verdict_from (task_by judge.now) loss log.now (to_come log.now waiting.new.items)
+        (drop (i + 1) log.now)
+        ≡ verdict_from (task_by judge.now) loss log.now (to_come log.now waiting.old.items)
+        (drop i log.now))) }
+    ensures within { IfOk result (λ found.
+        IfNone found (list_all (is_within (length log.now)) waiting.new.items ≡ true)) }
+{
+    let entry = &log[i];
+    let Some(wanted) = waiting.pop() else {
+        let path = entry.path.copy()?;
+        return Ok(Some(LogVerdict::Stray { path }));
+    };
+    let path = path_of(alloc, log, wanted)?;
+    match misplaced(alloc, &path, entry)? {
+        Some(verdict) => return Ok(Some(verdict)),
+        None => {}
+    }
+    let good = holds_up(alloc, judge, loss, log, entry)?;
+    if !good {
+        return Ok(Some(LogVerdict::Unsound {
+            path: Path::from_list(path),
+        }));
+    }
+    open(alloc, waiting, judge, entry, i)?;
+    Ok(None)
+}
+
+/// What is first wrong with a log.
+fn check_by(
+    alloc: Global,
+    judge: &Judge,
+    loss: u64,
+    log: &[Entry],
+) -> Result<LogVerdict, OutOfMemory>
+    requires fits { list_all (fits (length judge.now.ranked.items)) log.now ≡ true }
+    requires rising { rises (recorded log.now) ≡ true }
+    ensures verdict { IfOk result (λ v. IsVerdict (task_by judge.now) loss log.now v) }
+{
+    let mut waiting = Vec::new(alloc);
+    waiting.push(Wanted::Root)?;
+    for i in 0..log.len() {
+        let found = step(alloc, &mut waiting, judge, loss, log, i)?;
+        match found {
+            Some(verdict) => return Ok(verdict),
+            None => {}
+        }
+    }
+    let Some(wanted) = waiting.pop() else {
+        return Ok(LogVerdict::Refutes);
+    };
+    let path = path_of(alloc, log, wanted)?;
+    Ok(LogVerdict::Missing {
+        path: Path::from_list(path),
+    })
+}
+
+/// Judges a log by the definitions alone: whether it refutes the loss, and if not the first wrong
+/// path in rising order.
+pub fn check_log(
+    alloc: Global,
+    instance: &Instance,
+    charges: &Charges,
+    loss: u64,
+    log: &Log,
+) -> Result<LogVerdict, OutOfMemory>
+    requires orders { log.now.orders ≡ length instance.now.orders }
+    requires reach { length charges.now ≡ largest instance.now.sizes + 1 }
+    ensures refutes { IfOk result (λ v. (v ≡ Refutes) ↔
+        (LogRefutes (task_of instance.now charges.now) loss log.now.entries)) }
+    ensures missing { (path : List ℕ) → IfOk result (λ v. (v ≡ Missing path) ↔
+        (IsFirst (is_missing (task_of instance.now charges.now) log.now.entries)
+        (is_wrong (task_of instance.now charges.now) loss log.now.entries) path)) }
+    ensures stray { (path : List ℕ) → IfOk result (λ v. (v ≡ Stray path) ↔
+        (IsFirst (is_stray (task_of instance.now charges.now) log.now.entries)
+        (is_wrong (task_of instance.now charges.now) loss log.now.entries) path)) }
+    ensures unsound { (path : List ℕ) → IfOk result (λ v. (v ≡ Unsound path) ↔
+        (IsFirst (is_unsound (task_of instance.now charges.now) loss log.now.entries)
+        (is_wrong (task_of instance.now charges.now) loss log.now.entries) path)) }
+    ensures bound { IfOk result (λ v. v ≡ Refutes →
+        NoneLosesLess (mill_of instance.now) (λ l. slice_index charges.now l) instance.now.orders
+        loss) }
+{
+    let judge = judge_of(alloc, instance, charges)?;
+    let verdict = check_by(alloc, &judge, loss, log.entries())?;
+    Ok(verdict)
+}

@@ -1,0 +1,179 @@
+ghost use Rattle.std.specs.Prelude.{◌≡◌, ◌<◌, ◌≤◌, ◌+◌, ◌*◌, ℕ, List, IfOk, OnOk, drop, length, true};
+ghost use Rattle.std.specs.Prelude.{slice_index_or, slice_set, IfSome, IfNone, false};
+ghost use Rattle.std.specs.List.Sorted.{IsPermutation, IsSortedByKey};
+ghost use Rattle.mill_model.specs.Sets.{different};
+ghost use Rattle.log_checker.specs.Groups.{Seen, nothing_seen};
+ghost use Rattle.log_checker.specs.Judged.{mill_by};
+ghost use Rattle.log_checker.specs.Live.{lives, same_live_seen};
+ghost use Rattle.log_checker.specs.Keys.{key_order, key_in, IsKey, AreLive, AreComing, comes_in};
+ghost use Rattle.log_checker.specs.Keys.{AreSorted, same_key, same_keys};
+
+use crate::groups::Group;
+use crate::judge::Judge;
+use crate::key::{Key, LiveGroup, NO_COLOUR};
+use crate::live::is_live;
+use mill_model::OutOfMemory;
+use std::alloc::Global;
+
+/// Puts a colour that comes again behind those that are there.
+fn note_coming(coming: &mut [u16], count: usize, colour: u16, comes: bool) -> usize
+    requires { count < length coming.old }
+    ensures there { comes ≡ true →
+        (coming.new ≡ slice_set coming.old count colour) × (result ≡ count + 1) }
+    ensures not_there { comes ≡ false → (coming.new ≡ coming.old) × (result ≡ count) }
+{
+    if !comes {
+        return count;
+    }
+    coming[count] = colour;
+    count + 1
+}
+
+/// The colours of a group that come again, rising.
+fn coming_colours(judge: &Judge, group: &Group, k: usize) -> [u16; 8]
+    requires few { length group.now.colours ≤ 8 }
+    requires once { length group.now.colours ≡ different group.now.colours }
+    ensures { AreComing (comes_in (drop k judge.now.ranked.items) group.now) result }
+{
+    let colours = group.colours();
+    let mut coming = [NO_COLOUR; 8];
+    let mut count = 0;
+    for i in 0..colours.len() {
+        let comes = judge.comes(colours[i], k);
+        count = note_coming(&mut coming, count, colours[i], comes);
+    }
+    coming.sort_unstable();
+    coming
+}
+
+/// A group as the orders from rank `k` on see it.
+fn key_of(judge: &Judge, group: &Group, k: usize) -> Key
+    requires few { length group.now.colours ≤ 8 }
+    requires once { length group.now.colours ≡ different group.now.colours }
+    ensures { IsKey (drop k judge.now.ranked.items) group.now result }
+{
+    let coming = coming_colours(judge, group, k);
+    Key {
+        load: group.load(),
+        colours: group.colours().len(),
+        coming,
+    }
+}
+
+/// Sorts live groups by their keys.
+fn sort(live: &mut Vec<LiveGroup>)
+    ensures permutation { IsPermutation live.old.items live.new.items }
+    ensures sorted { IsSortedByKey key_in key_order live.new.items }
+{
+    live.sort_unstable_by_key(|live| live.key);
+}
+
+/// The key of a group, where it is live.
+fn live_group(judge: &Judge, groups: &[Group], k: usize, g: usize) -> Option<LiveGroup>
+    requires here { g < length groups.now }
+    requires rank { k ≤ length judge.now.ranked.items }
+    requires light { (slice_index_or groups.now g nothing_seen).load ≤ 1024 * 1000000 }
+    requires once { length (slice_index_or groups.now g nothing_seen).colours
+        ≡ different (slice_index_or groups.now g nothing_seen).colours }
+    ensures some { IfSome result (λ live. (live.group ≡ g)
+        × IsKey (drop k judge.now.ranked.items) (slice_index_or groups.now g nothing_seen) live.key
+        × (lives (mill_by judge.now) (drop k judge.now.ranked.items)
+        (slice_index_or groups.now g nothing_seen) ≡ true)) }
+    ensures none { IfNone result (lives (mill_by judge.now) (drop k judge.now.ranked.items)
+        (slice_index_or groups.now g nothing_seen) ≡ false) }
+{
+    let group = &groups[g];
+    if !is_live(group, judge, k) {
+        return None;
+    }
+    let key = key_of(judge, group, k);
+    Some(LiveGroup { key, group: g })
+}
+
+/// The live groups of a path, each with its key.
+fn live_groups(
+    alloc: Global,
+    judge: &Judge,
+    groups: &[Group],
+    k: usize,
+) -> Result<Vec<LiveGroup>, OutOfMemory>
+    requires rank { k ≤ length judge.now.ranked.items }
+    requires light { (g : ℕ) → (slice_index_or groups.now g nothing_seen).load ≤ 1024 * 1000000 }
+    requires once { (g : ℕ) → length (slice_index_or groups.now g nothing_seen).colours
+        ≡ different (slice_index_or groups.now g nothing_seen).colours }
+    ensures { IfOk result (λ live.
+        AreLive (mill_by judge.now) (drop k judge.now.ranked.items) groups.now live.items) }
+{
+    let mut live = Vec::new(alloc);
+    for g in 0..groups.len() {
+        match live_group(judge, groups, k, g) {
+            Some(group) => live.push(group)?,
+            None => {}
+        }
+    }
+    Ok(live)
+}
+
+/// Whether two keys are the same.
+pub(crate) fn same_key(a: Key, b: Key) -> bool
+    ensures { result ≡ same_key a b }
+{
+    a == b
+}
+
+/// Whether two lists have the same keys, place by place.
+fn same_keys(a: &[LiveGroup], b: &[LiveGroup]) -> bool
+    ensures { result ≡ same_keys a.now b.now }
+{
+    if a.len() != b.len() {
+        return false;
+    }
+    for i in 0..a.len() {
+        if !same_key(a[i].key, b[i].key) {
+            return false;
+        }
+    }
+    true
+}
+
+/// The live groups of a path in the order of their keys.
+pub(crate) fn sorted_live(
+    alloc: Global,
+    judge: &Judge,
+    groups: &[Group],
+    k: usize,
+) -> Result<Vec<LiveGroup>, OutOfMemory>
+    requires rank { k ≤ length judge.now.ranked.items }
+    requires light { (g : ℕ) → (slice_index_or groups.now g nothing_seen).load ≤ 1024 * 1000000 }
+    requires once { (g : ℕ) → length (slice_index_or groups.now g nothing_seen).colours
+        ≡ different (slice_index_or groups.now g nothing_seen).colours }
+    ensures { IfOk result (λ live. AreSorted (mill_by judge.now) (drop k judge.now.ranked.items)
+        groups.now live.items) }
+{
+    let mut live = live_groups(alloc, judge, groups, k)?;
+    sort(&mut live);
+    Ok(live)
+}
+
+/// Whether the live groups of two paths are the same, each as often.
+pub(crate) fn same_live(
+    alloc: Global,
+    judge: &Judge,
+    first: &[Group],
+    second: &[Group],
+    k: usize,
+) -> Result<bool, OutOfMemory>
+    requires rank { k ≤ length judge.now.ranked.items }
+    requires first_light { (g : ℕ) → (slice_index_or first.now g nothing_seen).load ≤ 1024 * 1000000 }
+    requires first_once { (g : ℕ) → length (slice_index_or first.now g nothing_seen).colours
+        ≡ different (slice_index_or first.now g nothing_seen).colours }
+    requires second_light { (g : ℕ) → (slice_index_or second.now g nothing_seen).load ≤ 1024 * 1000000 }
+    requires second_once { (g : ℕ) → length (slice_index_or second.now g nothing_seen).colours
+        ≡ different (slice_index_or second.now g nothing_seen).colours }
+    ensures { IfOk result (λ yes. yes ≡
+        same_live_seen (mill_by judge.now) (drop k judge.now.ranked.items) first.now second.now) }
+{
+    let a = sorted_live(alloc, judge, first, k)?;
+    let b = sorted_live(alloc, judge, second, k)?;
+    Ok(same_keys(&a, &b))
+}

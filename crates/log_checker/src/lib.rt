@@ -1,0 +1,27 @@
+//! A checker of refutation logs. It has its own rank, tree, live keys and knapsack, and shares
+//! with the search nothing but the definitions that a log is judged by.
+#![tactic(auto)]
+
+mod agenda;
+mod check;
+mod dominated;
+mod groups;
+mod items;
+mod judge;
+mod key;
+mod keys;
+mod knapsack;
+mod layers;
+mod live;
+mod price;
+mod setting;
+mod sound;
+mod stock;
+mod table;
+#[cfg(test)]
+mod tests;
+mod tree;
+mod verdict;
+
+pub use check::check_log;
+pub use verdict::LogVerdict;

@@ -1,0 +1,9 @@
+use Rattle.std.proofs.Common.{ap}
+use Rattle.mill_io.proofs.Fronts.{front_given}
+use Rattle.mill_io.proofs.memory.MemSourceSource.read.Goals as goal
+
+pub returns-clause-bytes : goal.returns-clause-bytes
+returns-clause-bytes c =
+    front_given _ _ _ _ c.self.inside.at _ _ _ c.deref-2.ensures.value
+    (ap (λ supply. supply.left) c.self.view_is) c.give-count.ensures.same
+    c.give-count.ensures.count (λ _. c.self.invariant.1)

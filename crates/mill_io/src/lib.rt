@@ -1,0 +1,18 @@
+//! The outside world as traits: sources and sinks of bytes that count their faults, over memory and
+//! over std, and the call that reads a source to its end.
+#![tactic(auto)]
+
+mod memory;
+mod read;
+mod standard;
+mod steady;
+mod stream;
+
+pub use memory::{MemSink, MemSource};
+pub use read::{ReadError, read_all};
+pub use standard::{StdSink, StdSource};
+pub use steady::{SteadySink, SteadySource};
+pub use stream::{Failed, Sink, Source};
+
+#[cfg(test)]
+mod tests;

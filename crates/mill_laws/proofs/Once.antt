@@ -1,0 +1,166 @@
+-- Where the recorded and the unclosed paths are the empty path and the children of the split ones,
+-- no path is among them twice: a child tells its parent and its last number, so it is wanted at
+-- most as often as its parent is recorded, and the empty path is nobody's child.
+use Rattle.std.proofs.Common.{ℕ, zero, suc, ◌<◌, ◌≤◌, ◌≡◌, eqb, Bool, cond, ◌&&◌, List, [], ◌∷◌}
+use Rattle.std.proofs.Common.{◌++◌, map, filter, length, refl, ap, arith, length-append, append-nil}
+use Rattle.std.proofs.lemmas.Bool.Decides.{nat_tests}
+use Rattle.mill_model.specs.Sets.{same_list, below, times, SameTimes}
+use Rattle.mill_model.specs.Slab.{Mill}
+use Rattle.mill_model.specs.Tree.{next_new, may_go_on, children}
+use Rattle.mill_model.specs.Log.{Task, recorded, left_open, split_children, IsComplete}
+use Rattle.mill_model.specs.declared.order.Order.{Order}
+use Rattle.mill_model.specs.declared.closing.Entry.{Entry}
+use Rattle.mill_model.specs.declared.closing.Closing.{Closing}
+use Rattle.mill_model.specs.declared.closing.Closing.TheVariants.{Split, Leaf, Priced, Dominated}
+use Rattle.mill_laws.proofs.Lists.{times-append}
+
+-- a child tells its parent and its last number
+pub same-child : (p e : List ℕ) (g h : ℕ) →
+    same_list (p ++ g ∷ []) (e ++ h ∷ []) ≡ (same_list p e && eqb g h)
+same-child [] [] g h = grind arith
+same-child [] (y ∷ []) g h = grind arith
+same-child [] (y ∷ z ∷ e) g h = grind arith
+same-child (x ∷ []) [] g h = grind arith
+same-child (x ∷ z ∷ p) [] g h = grind arith
+same-child (x ∷ p) (y ∷ e) g h = grind (arith, same-child p e g h)
+
+pub times-pushed : (p e : List ℕ) (g : ℕ) (hs : List ℕ) →
+    times same_list (p ++ g ∷ []) (map (λ h. e ++ h ∷ []) hs)
+    ≡ cond (same_list p e) (times eqb g hs) 0
+times-pushed p e g [] = grind arith
+times-pushed p e g (h ∷ hs) = grind (arith, times-pushed p e g hs, same-child p e g h)
+
+-- a number stands at most once among those below n that pass a test
+pub times-filter : (g : ℕ) (test : ℕ → Bool) (hs : List ℕ) →
+    times eqb g (filter test hs) ≤ times eqb g hs
+times-filter g test [] = omega arith
+times-filter g test (h ∷ hs) = grind (arith, times-filter g test hs)
+
+pub times-beyond : (g n : ℕ) → n ≤ g → times eqb g (below n) ≡ 0
+times-beyond g zero l = refl
+times-beyond g (suc n) l =
+    grind (arith, nat_tests, times-beyond g n, times-append eqb g (below n) (n ∷ []))
+
+pub times-below : (g n : ℕ) → times eqb g (below n) ≤ 1
+times-below g zero = omega arith
+times-below g (suc n) =
+    let last = times-append eqb g (below n) (n ∷ []) in
+    grind (arith, nat_tests, times-below g n, times-beyond g n, last)
+
+-- A path is wanted as often as it stands among the children of split paths: a child at most as
+-- often as its parent is recorded, and the empty path never.
+
+pub children-times : (mill : Mill) (ranked : List Order) (p e : List ℕ) (g : ℕ) →
+    times same_list (p ++ g ∷ []) (children mill ranked e) ≤ cond (same_list p e) 1 0
+children-times mill ranked p e g =
+    grind (
+      arith,
+      times-pushed p e g (filter (may_go_on mill ranked e) (below (suc (next_new e)))),
+      times-filter g (may_go_on mill ranked e) (below (suc (next_new e))),
+      times-below g (suc (next_new e)),
+    )
+
+pub open-times : (task : Task) (log : List Entry) (p : List ℕ) (g : ℕ) →
+    times same_list (p ++ g ∷ []) (split_children task log) ≤ times same_list p (recorded log)
+open-times task [] p g = omega arith
+open-times task (entry ∷ log) p g =
+    omega (
+      arith,
+      open-times task log p g,
+      times-append same_list (p ++ g ∷ []) (left_open task entry.path entry.closing)
+          (split_children task log),
+      of-one entry.closing,
+    )
+  where
+    of-one : (c : Closing) →
+        times same_list (p ++ g ∷ []) (left_open task entry.path c)
+        ≤ cond (same_list p entry.path) 1 0
+    of-one Split = children-times task.mill task.ranked p entry.path g
+    of-one Leaf = omega arith
+    of-one (Priced prices) = omega arith
+    of-one (Dominated other) = omega arith
+
+pub no-empty : (e : List ℕ) (hs : List ℕ) → times same_list [] (map (λ h. e ++ h ∷ []) hs) ≡ 0
+no-empty e [] = refl
+no-empty [] (h ∷ hs) = omega (arith, no-empty [] hs)
+no-empty (x ∷ e) (h ∷ hs) = omega (arith, no-empty (x ∷ e) hs)
+
+pub empty-times : (task : Task) (log : List Entry) →
+    times same_list [] (split_children task log) ≡ 0
+empty-times task [] = refl
+empty-times task (entry ∷ log) =
+    omega (
+      arith,
+      empty-times task log,
+      times-append same_list [] (left_open task entry.path entry.closing)
+          (split_children task log),
+      of-one entry.closing,
+    )
+  where
+    of-one : (c : Closing) → times same_list [] (left_open task entry.path c) ≡ 0
+    of-one Split =
+        no-empty entry.path (filter (may_go_on task.mill task.ranked entry.path)
+        (below (suc (next_new entry.path))))
+    of-one Leaf = refl
+    of-one (Priced prices) = refl
+    of-one (Dominated other) = refl
+
+-- a path is empty or goes on from another by one number
+pub ends : (x : ℕ) (path : List ℕ) → (p : List ℕ) × (g : ℕ) × (x ∷ path ≡ p ++ g ∷ [])
+ends x [] = ([], x, refl)
+ends x (y ∷ path) = let r = ends y path in (x ∷ r.0, r.1, ap (λ l. x ∷ l) r.2)
+
+-- so a path is wanted at most as often as another is recorded
+pub wanted-parent : (task : Task) (log : List Entry) (x : ℕ) (path : List ℕ) →
+    times same_list (x ∷ path) (split_children task log)
+    ≤ times same_list (ends x path).0 (recorded log)
+wanted-parent task log x path =
+    let r = ends x path in rw (r.2) (open-times task log r.0 r.1)
+
+-- No path twice.
+
+-- where each path is recorded at most once, each is wanted at most once
+pub wanted-once : (task : Task) (log : List Entry) →
+    ((path : List ℕ) → times same_list path (recorded log) ≤ 1) → (path : List ℕ) →
+    times same_list path ([] ∷ split_children task log) ≤ 1
+wanted-once task log h [] = omega (arith, empty-times task log)
+wanted-once task log h (x ∷ path) =
+    omega (arith, wanted-parent task log x path, h (ends x path).0)
+
+pub conserved-once : (task : Task) (log : List Entry) (unclosed : List (List ℕ)) →
+    SameTimes same_list (recorded log ++ unclosed) ([] ∷ split_children task log) →
+    (n : ℕ) (path : List ℕ) → length path ≤ n → times same_list path (recorded log ++ unclosed) ≤ 1
+conserved-once task log unclosed h n [] l = rw (h []) (omega (arith, empty-times task log))
+conserved-once task log unclosed h zero (x ∷ path) l = absurd (omega arith)
+conserved-once task log unclosed h (suc n) (x ∷ path) l =
+    let r = ends x path in
+    let shorter : length r.0 ≤ n =
+    omega (arith, ap length r.2, length-append r.0 (r.1 ∷ [])) in
+    rw (h (x ∷ path)) (omega (
+      arith,
+      wanted-parent task log x path,
+      times-append same_list r.0 (recorded log) unclosed,
+      conserved-once task log unclosed h n r.0 shorter,
+    ))
+
+-- a complete log records no path twice
+pub once-recorded : (task : Task) (log : List Entry) → IsComplete task log → (path : List ℕ) →
+    times same_list path (recorded log) ≤ 1
+once-recorded task log h path =
+    rw append-nil at (conserved-once task log [] (λ p. rw append-nil (h p)) (length path) path
+    (omega arith))
+
+-- Of a log that records no path twice: it is complete where it misses no path and none is stray.
+pub complete-from : (task : Task) (log : List Entry) →
+    ((path : List ℕ) → times same_list path (recorded log) ≤ 1) →
+    ((path : List ℕ) → 0 < times same_list path ([] ∷ split_children task log) →
+    0 < times same_list path (recorded log)) →
+    ((path : List ℕ) → 0 < times same_list path (recorded log) →
+    0 < times same_list path ([] ∷ split_children task log)) → IsComplete task log
+complete-from task log once missing stray path =
+    equal (times same_list path (recorded log)) (times same_list path
+    ([] ∷ split_children task log)) (once path) (wanted-once task log once path) (missing path)
+    (stray path)
+  where
+    equal : (a b : ℕ) → a ≤ 1 → b ≤ 1 → (0 < b → 0 < a) → (0 < a → 0 < b) → a ≡ b
+    equal a b x y f g = grind arith

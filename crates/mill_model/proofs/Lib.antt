@@ -1,0 +1,4 @@
+pub mod Different
+pub mod FirstPlaces
+mod Numbering
+mod Sizes

@@ -1,0 +1,15 @@
+pub mod Sets
+pub mod Slab
+pub mod Instance
+pub mod Plan
+pub mod Limits
+pub mod Rank
+pub mod Tree
+pub mod Numbering
+pub mod Prices
+pub mod LiveKey
+pub mod Log
+pub mod Bounds
+pub mod Conserved
+pub mod Size
+pub mod Small

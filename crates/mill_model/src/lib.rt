@@ -1,0 +1,26 @@
+//! The steel mill slab design problem: the types that every crate speaks in, and the definitions
+//! by which instances, plans, paths and logs are judged.
+#![tactic(auto)]
+
+mod charges;
+mod closing;
+mod instance;
+mod limits;
+mod memory;
+mod order;
+mod path;
+mod plan;
+mod prices;
+pub mod rows;
+#[cfg(test)]
+mod tests;
+
+pub use charges::Charges;
+pub use closing::{Closing, Entry};
+pub use instance::Instance;
+pub use limits::{Draw, Limits, Standing};
+pub use memory::OutOfMemory;
+pub use order::{MAX_ORDERS, Order};
+pub use path::Path;
+pub use plan::{Plan, Start};
+pub use prices::Prices;

@@ -1,0 +1,8 @@
+pub mod Keys
+pub mod Sorted
+pub mod Ranks
+pub mod Limits
+pub mod Places
+pub mod Plans
+pub mod Classes
+pub mod Twins

@@ -1,0 +1,99 @@
+-- A file's orders, sorted by the key, are its rank.
+use Rattle.std.proofs.Common.{ℕ, suc, ◌+◌, ◌≡◌, true, false, cond, List, [], ◌∷◌, ◌++◌, map, refl}
+use Rattle.std.proofs.Common.{sym, ap, ◌∙◌, arith, inl, inr, length, get_or, take, ◌<◌}
+use Rattle.std.proofs.lemmas.List.Sorted.{IsPermutation-map}
+use Rattle.std.proofs.lemmas.List.{get_or-map, length-map, take_more, length-take, map-append}
+use Rattle.std.specs.List.{AllByRecursion}
+use Rattle.std.specs.List.Sorted.{IsPermutation, IsSortedBy}
+use Rattle.mill_model.specs.Sets.{times, SameTimes}
+use Rattle.mill_model.specs.Rank.{Placed, is_before, put_in_rank, rank_from, rank}
+use Rattle.mill_model.specs.declared.order.Order.{Order}
+use Rattle.mill_laws.proofs.Different.{either}
+use Rattle.mill_laws.proofs.Merged.{each-weaker}
+use Rattle.mill_laws.proofs.Ranking.{precedes, Rising, rank-rising, all-put}
+use Rattle.order_symmetry.specs.Numbered.{placed_of, stands_before}
+use Rattle.order_symmetry.specs.declared.numbered.Numbered.{Numbered}
+use Rattle.order_symmetry.proofs.Sorted.{NoneBefore, none-before, none-before-unique, one_way}
+use Rattle.order_symmetry.proofs.Sorted.{same_placed, times-permutation}
+
+-- the orders of a file from a place on, each with its place
+abbrev pub placed_from : ℕ → List Order → List Placed
+placed_from place [] = []
+placed_from place (order ∷ orders) =
+    record { order = order; place = place } ∷ placed_from (suc place) orders
+
+pub placed_from-append : (k : ℕ) (xs ys : List Order) →
+    placed_from k (xs ++ ys) ≡ placed_from k xs ++ placed_from (k + length xs) ys
+placed_from-append k [] ys = ap (λ n. placed_from n ys) (omega arith)
+placed_from-append k (x ∷ xs) ys =
+    let e : suc k + length xs ≡ k + suc (length xs) = omega arith in
+    ap (λ l. record { order = x; place = k } ∷ l) (placed_from-append (suc k) xs ys
+    ∙ ap (λ n. placed_from (suc k) xs ++ placed_from n ys) e)
+
+-- one more of them
+pub placed-more : (orders : List Order) (items : List Numbered) (i : ℕ) (d : Order) →
+    i < length orders → map placed_of items ≡ placed_from 0 (take i orders) →
+    map placed_of (items ++ record { order = get_or orders i d; number = i } ∷ []) ≡ placed_from 0
+    (take (i + 1) orders)
+placed-more orders items i d l h =
+    let more : take (i + 1) orders ≡ take i orders ++ get_or orders i d ∷ [] =
+    take_more orders i d l in
+    let long : 0 + length (take i orders) ≡ i = omega (arith, length-take i orders) in
+    map-append placed_of items (record { order = get_or orders i d; number = i } ∷ [])
+    ∙ ap (λ xs. xs ++ record { order = get_or orders i d; place = i } ∷ []) h
+    ∙ sym (rw (more, placed_from-append 0 (take i orders) (get_or orders i d ∷ []), long) refl)
+
+-- what holds of each order at its place holds of each in rank
+pub rank-each : (P : Placed → Type 0) (k : ℕ) (orders : List Order) →
+    AllByRecursion P (placed_from k orders) → AllByRecursion P (rank_from k orders)
+rank-each P k [] h = tt
+rank-each P k (order ∷ orders) h =
+    all-put P (record { order = order; place = k }) (rank_from (suc k) orders) h.0
+    (rank-each P (suc k) orders h.1)
+
+-- the rank has the file's orders at their places
+put-times : (x new : Placed) (xs : List Placed) →
+    times same_placed x (put_in_rank new xs) ≡ times same_placed x (new ∷ xs)
+put-times x new [] = refl
+put-times x new (y ∷ xs) = elim (either (is_before y.order new.order)) [
+  | inl e ↦ (let ih : times same_placed x (put_in_rank new xs) ≡ times same_placed x (new ∷ xs) =
+      put-times x new xs in rw e (omega arith))
+  | inr e ↦ rw e refl
+]
+
+rank-times : (k : ℕ) (orders : List Order) →
+    SameTimes same_placed (rank_from k orders) (placed_from k orders)
+rank-times k [] x = refl
+rank-times k (order ∷ orders) x =
+    put-times x (record { order = order; place = k }) (rank_from (suc k) orders)
+    ∙ ap (λ n. cond (same_placed x (record { order = order; place = k })) 1 0 + n)
+    (rank-times (suc k) orders x)
+
+-- and none stands before an earlier one
+rising-none : (xs : List Placed) → Rising xs → NoneBefore xs
+rising-none [] r = tt
+rising-none (x ∷ xs) r = (
+  each-weaker (λ y. precedes x y ≡ true) (λ y. precedes y x ≡ false) xs (λ y h. one_way x y h) r.0,
+  rising-none xs r.1,
+)
+
+pub sorted-map : (items : List Numbered) → IsSortedBy stands_before items →
+    IsSortedBy precedes (map placed_of items)
+sorted-map items up k d l h =
+    let e : Numbered = record { order = d.order; number = d.place } in
+    let n : length (map placed_of items) ≡ length items = length-map items placed_of in
+    rw (
+      get_or-map placed_of items (k + 1) e d (omega arith),
+      get_or-map placed_of items k e d (omega arith),
+    ) (up k e (omega arith) (omega arith))
+
+pub sorted-rank : (orders : List Order) (given items : List Numbered) →
+    map placed_of given ≡ placed_from 0 orders → IsPermutation given items →
+    IsSortedBy stands_before items → map placed_of items ≡ rank orders
+sorted-rank orders given items e p up =
+    none-before-unique (map placed_of items) (rank orders)
+    (none-before (map placed_of items) (sorted-map items up))
+    (rising-none (rank orders) (rank-rising 0 orders)) (λ x.
+    sym (times-permutation (map placed_of given) (map placed_of items)
+    (IsPermutation-map placed_of given items p) x) ∙ ap (times same_placed x) e
+    ∙ sym (rank-times 0 orders x))

@@ -1,0 +1,4 @@
+pub mod Counts
+pub mod Judged
+pub mod Pairs
+pub mod Slabs

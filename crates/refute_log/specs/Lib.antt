@@ -1,0 +1,5 @@
+pub mod Rising
+pub mod Fits
+pub mod Logged
+pub mod Text
+pub mod Judged

@@ -1,0 +1,18 @@
+//! Refutation logs: records of closed paths by rising path, and their text.
+#![tactic(auto)]
+
+mod error;
+mod log;
+mod paths;
+mod print;
+mod read;
+mod record;
+#[cfg(test)]
+mod tests;
+
+pub use error::LogTextError;
+pub use log::Log;
+pub use mill_model::Entry;
+pub use paths::compare;
+pub use print::print_log;
+pub use read::{parse_log, read_log};

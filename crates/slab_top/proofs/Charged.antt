@@ -1,0 +1,155 @@
+-- What a plan loses by a table of charges, and within which limits.
+use Rattle.std.proofs.Common.{◌≡◌, ℕ, zero, suc, ◌+◌, ◌-◌, ◌*◌, ◌<◌, ◌≤◌, Bool, true, false, cond, ltb}
+use Rattle.std.proofs.Common.{List, [], ◌∷◌, length, max, leb, eqb, refl, sym, ap, ◌∙◌, subst, arith}
+use Rattle.std.proofs.Common.{eq-eqb, eqb-true, ltb-true, get_or}
+use Rattle.std.specs.Prelude.{◌↔◌, All, Option, Some, None, slice_index}
+use Rattle.std.specs.List.{list_all}
+use Rattle.mill_model.specs.Sets.{total}
+use Rattle.mill_model.specs.Slab.{load}
+use Rattle.mill_model.specs.Instance.{Problem, IsInstance, IsSize, largest, mill_of, loss_charge}
+use Rattle.mill_model.specs.Instance.{excess, size_for}
+use Rattle.mill_model.specs.Plan.{slab, loss, numbers_each}
+use Rattle.mill_model.specs.declared.order.Order.{Order}
+use Rattle.mill_laws.proofs.Lists.{total-cong, and-left, and-right}
+use Rattle.plan_check.specs.Verdicts.{IsLegal}
+use Rattle.plan_check.specs.declared.verdict.Verdict.{Verdict}
+use Rattle.plan_check.specs.declared.verdict.Verdict.TheVariants.{Legal}
+use Rattle.answer_text.specs.declared.answer.Answer.TheVariants.{Optimal}
+use Rattle.slab_top.specs.Best.{IsBest, IsLegalFor, IsTidy, IsTidyPlan, loss_of}
+use Rattle.slab_top.specs.Outcome.{IsToldAnswer}
+
+-- a table with the charge of each load charges a plan its loss
+pub table-loss : (problem : Problem) (charges plan : List ℕ) →
+    ((l : ℕ) → slice_index charges l ≡ loss_charge problem.sizes l) →
+    loss (λ l. slice_index charges l) plan problem.orders ≡ loss_of problem plan
+table-loss problem charges plan each =
+    total-cong (length problem.orders) _ _ (λ s below. each (load (slab s plan problem.orders)))
+
+-- so what is legal by the table is legal with this loss
+pub table-legal : (problem : Problem) (charges plan : List ℕ) (lost : ℕ) →
+    ((l : ℕ) → slice_index charges l ≡ loss_charge problem.sizes l) →
+    IsLegal (mill_of problem) (λ l. slice_index charges l) problem.orders plan lost →
+    IsLegal (mill_of problem) (loss_charge problem.sizes) problem.orders plan lost
+table-legal problem charges plan lost each legal = record {
+  is_legal = legal.is_legal;
+  loses = legal.loses ∙ table-loss problem charges plan each;
+}
+
+-- numbers below the number of orders, one for each
+pub numbers-from : (orders : List Order) (plan : List ℕ) → length plan ≡ length orders →
+    All (λ s. s < length orders) plan → numbers_each plan orders ≡ true
+numbers-from orders plan count below =
+    rw (eq-eqb (length plan) (length orders) count) (all-below plan below)
+  where
+    all-below : (plan : List ℕ) → All (λ s. s < length orders) plan →
+        list_all (λ s. ltb s (length orders)) plan ≡ true
+    all-below [] below = refl
+    all-below (s ∷ plan) below =
+        let first : s < length orders = below 0 0 (omega arith) in
+        let test : ltb s (length orders) ≡ true = grind arith in
+        rw test (all-below plan (λ i d inside. below (suc i) d (omega arith)))
+
+-- A plan was made like another one and judged.
+module _ (problem : Problem) (charges plan made : List ℕ) (same : made ≡ plan) (verdict : Verdict)
+    (each : (l : ℕ) → slice_index charges l ≡ loss_charge problem.sizes l)
+    (says : (lost : ℕ) → (verdict ≡ Legal lost)
+    ↔ IsLegal (mill_of problem) (λ l. slice_index charges l) problem.orders made lost) where
+  -- where it is legal, it was found to lose what it loses
+  pub found-legal : (fine : IsLegalFor problem plan) → verdict ≡ Legal (loss_of problem plan)
+  found-legal fine =
+      (says (loss_of problem plan)).1 (record {
+        is_legal = subst (IsLegalFor problem) (sym same) fine;
+        loses = ap (loss_of problem) (sym same) ∙ sym (table-loss problem charges made each);
+      })
+
+  pub found-loss : (lost : ℕ) → verdict ≡ Legal lost → IsLegalFor problem plan →
+      lost ≡ loss_of problem plan
+  found-loss lost is fine = let found = found-legal fine in legal-once (sym is ∙ found)
+    where
+      legal-once : {l m : ℕ} → Legal l ≡ Legal m → l ≡ m
+      legal-once e = cc
+
+  -- and where it was found legal, it is
+  pub found-tidy : (lost : ℕ) → verdict ≡ Legal lost → IsTidy plan →
+      IsTidyPlan problem (record { plan = made; loss = lost })
+  found-tidy lost is tidy =
+      let legal = (says lost).0 is in
+      record {
+        fine = legal.is_legal;
+        tidy = subst IsTidy (sym same) tidy;
+        loses = sym (legal.loses ∙ table-loss problem charges made each);
+      }
+
+-- numbers below the number of orders, each of them
+numbers-below : (n : ℕ) (plan : List ℕ) → list_all (λ s. ltb s n) plan ≡ true →
+    All (λ s. s < n) plan
+numbers-below n [] below = λ k d inside. absurd (omega arith)
+numbers-below n (s ∷ plan) below =
+    at (ltb-true s n (and-left (ltb s n) _ below))
+    (numbers-below n plan (and-right (ltb s n) _ below))
+  where
+    at : s < n → All (λ t. t < n) plan → All (λ t. t < n) (s ∷ plan)
+    at first later zero d inside = first
+    at first later (suc k) d inside = later k d (omega arith)
+
+-- A size is within its limit, and so is a charge and the loss of a plan.
+
+largest-limit : (sizes : List ℕ) → All IsSize sizes → largest sizes ≤ 20000
+largest-limit [] each = omega arith
+largest-limit (size ∷ sizes) each =
+    let here = (each 0 0 (omega arith)).1 in
+    let later = largest-limit sizes (λ i d inside. each (suc i) d (omega arith)) in
+    omega arith
+
+excess-limit : (sizes : List ℕ) (load : ℕ) → excess load (size_for sizes load) ≤ largest sizes
+excess-limit [] load = omega arith
+excess-limit (size ∷ sizes) load =
+    step (leb load size) (excess-limit sizes load)
+  where
+    step : (b : Bool) → excess load (size_for sizes load) ≤ largest sizes →
+        excess load (cond b (Some size) (size_for sizes load)) ≤ max size (largest sizes)
+    step true later = omega arith
+    step false later = omega arith
+
+charge-limit : (sizes : List ℕ) (load : ℕ) → loss_charge sizes load ≤ largest sizes
+charge-limit sizes load = step (eqb load 0) (excess-limit sizes load)
+  where
+    step : (b : Bool) → excess load (size_for sizes load) ≤ largest sizes →
+        cond b 0 (excess load (size_for sizes load)) ≤ largest sizes
+    step true limit = omega arith
+    step false limit = limit
+
+total-limit : (n : ℕ) (f : ℕ → ℕ) → ((s : ℕ) → f s ≤ 20000) → total n f ≤ n * 20000
+total-limit zero f each = omega arith
+total-limit (suc n) f each =
+    let here = each n in let before = total-limit n f each in omega arith
+
+pub loss-limit : (problem : Problem) (plan : List ℕ) → IsInstance problem →
+    loss_of problem plan ≤ 1000000000000
+loss-limit problem plan instance =
+    let few = instance.within.few_orders in
+    let all = total-limit (length problem.orders)
+    (λ s. loss_charge problem.sizes (load (slab s plan problem.orders)))
+    (λ s. charge-at (load (slab s plan problem.orders))) in
+    omega arith
+  where
+    charge-at : (l : ℕ) → loss_charge problem.sizes l ≤ 20000
+    charge-at l =
+        let sizes = largest-limit problem.sizes instance.within.each_size in
+        let charge = charge-limit problem.sizes l in
+        omega arith
+
+-- so the best plan can be told
+pub best-told : (problem : Problem) (plan : List ℕ) (lost : ℕ) → IsInstance problem →
+    IsBest problem (record { plan = plan; loss = lost }) → IsToldAnswer (Optimal lost plan)
+best-told problem plan lost instance best =
+    let each = best.found.fine.each in
+    let count = eqb-true (length plan) (length problem.orders)
+    (and-left (eqb (length plan) (length problem.orders)) _ each) in
+    let below = numbers-below (length problem.orders) plan
+    (and-right (eqb (length plan) (length problem.orders)) _ each) in
+    let limit = loss-limit problem plan instance in
+    let loses = best.found.loses in (
+      tt,
+      (omega arith, ((refl, subst (λ n. All (λ s. s < n) plan) (sym count) below), tt)),
+    )

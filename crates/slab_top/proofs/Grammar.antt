@@ -1,0 +1,521 @@
+-- Words that ask for a job: how they begin, and that they ask for no other.
+use Rattle.std.proofs.Common.{
+  ◌≡◌,
+  ℕ,
+  suc,
+  ◌+◌,
+  ◌-◌,
+  ◌<◌,
+  ◌≤◌,
+  Bool,
+  true,
+  false,
+  cond,
+  List,
+  [],
+  ◌∷◌,
+  ◌++◌,
+  length,
+  take,
+  drop,
+  refl,
+  sym,
+  ap,
+  ap₂,
+  ◌∙◌,
+  subst,
+  arith,
+  append_assoc,
+  append-nil,
+  length-append,
+  ◌⊎◌,
+  inl,
+  inr,
+  get_or,
+  slice_get,
+  add-one,
+}
+use Rattle.std.specs.Prelude.{Option, Some, None, unwrap_or, String, string_bytes}
+use Rattle.std.specs.declared.alloc.Global.{Global}
+use Rattle.std.specs.List.{AllByRecursion}
+use Rattle.std.proofs.Math.Seq.{take-suc}
+use Rattle.std.proofs.lemmas.Bool.{cases_order}
+use Rattle.std.proofs.lemmas.List.{take-append-drop, take_all, take-take, get_or-map, length-map}
+use Rattle.std.specs.Str.Parse.{digits_value}
+use Rattle.slab_top.specs.declared.words.Command.{Command}
+use Rattle.slab_top.specs.declared.words.Command.TheVariants.{Solve, Check}
+use Rattle.slab_top.specs.declared.words.Setting.{Setting}
+use Rattle.slab_top.specs.declared.words.Setting.TheVariants.{Colours}
+use Rattle.slab_top.specs.declared.words.Job.{Job}
+use Rattle.slab_top.specs.Reading.{HasRead, held_for}
+use Rattle.slab_top.specs.Words.{
+  texts,
+  Given,
+  words_of,
+  spelling,
+  name_of,
+  allows,
+  least,
+  greatest,
+  default,
+  same_setting,
+  number_for,
+  or_default,
+  AreOnce,
+  IsNumberFor,
+  IsRightFor,
+  Spell,
+  AskFor,
+  Begin,
+  IsWrongAt,
+}
+
+true-or-false : (b : Bool) → (b ≡ true) ⊎ (b ≡ false)
+true-or-false true = inl refl
+true-or-false false = inr refl
+
+-- the text of a word
+pub text-at : (words : List (String Global)) (place : ℕ) (word : String Global) →
+    place < length words → word ≡ get_or words place word →
+    get_or (texts words) place [] ≡ string_bytes word
+text-at words place word within here =
+    get_or-map string_bytes words place word [] within ∙ ap string_bytes (sym here)
+
+pub texts-count : (words : List (String Global)) → length (texts words) ≡ length words
+texts-count words = length-map words string_bytes
+
+-- settings and commands are told apart, and by their names
+
+same-setting-refl : (s : Setting) → same_setting s s ≡ true
+same-setting-refl Colours = refl
+
+same-settings : (s t : Setting) → same_setting s t ≡ true → s ≡ t
+same-settings Colours Colours e = refl
+
+same-setting-sym : (s t : Setting) → same_setting s t ≡ same_setting t s
+same-setting-sym Colours Colours = refl
+
+pub name-once : (s t : Setting) → name_of s ≡ name_of t → s ≡ t
+name-once Colours Colours e = refl
+
+spelling-once : (c d : Command) → spelling c ≡ spelling d → c ≡ d
+spelling-once Solve Solve e = refl
+spelling-once Check Check e = refl
+spelling-once Solve Check e = let first : 115 ≡ 99 = ap (λ text. get_or text 0 0) e in
+    absurd (omega (arith, first))
+spelling-once Check Solve e = let first : 99 ≡ 115 = ap (λ text. get_or text 0 0) e in
+    absurd (omega (arith, first))
+
+-- some number is right for each setting
+a-number : (s : Setting) → (word : List ℕ) × IsNumberFor s word
+a-number Colours = (
+  49 ∷ [],
+  record {
+    digits = (omega arith, (omega arith, tt));
+    low = omega arith;
+    high = omega arith;
+  },
+)
+
+-- options with one more behind them
+
+words-append : (front back : List Given) →
+    words_of (front ++ back) ≡ words_of front ++ words_of back
+words-append [] back = refl
+words-append (option ∷ front) back =
+    ap (λ words. name_of option.setting ∷ option.number ∷ words) (words-append front back)
+
+right-append : (c : Command) (front back : List Given) → AllByRecursion (IsRightFor c) front →
+    AllByRecursion (IsRightFor c) back → AllByRecursion (IsRightFor c) (front ++ back)
+right-append c [] back f b = b
+right-append c (option ∷ front) back f b = (f.0, right-append c front back f.1 b)
+
+right-back : (c : Command) (front back : List Given) →
+    AllByRecursion (IsRightFor c) (front ++ back) → AllByRecursion (IsRightFor c) back
+right-back c [] back each = each
+right-back c (option ∷ front) back each = right-back c front back each.1
+
+-- a setting that isn't given by the options in front
+number-behind : (s : Setting) (front back : List Given) → number_for s front ≡ None →
+    number_for s (front ++ back) ≡ number_for s back
+number-behind s [] back none = refl
+number-behind s (option ∷ front) back none =
+    elim (true-or-false (same_setting s option.setting)) [
+      | inl same ↦ (let none' = rw same at none in absurd (cc))
+      | inr other ↦ (let none' = rw other at none in rw other (number-behind s front back none'))
+    ]
+
+-- an option behind others is given by none of them where no setting is given twice
+new-behind : (front : List Given) (option : Given) (back : List Given) →
+    AreOnce (front ++ option ∷ back) → number_for option.setting front ≡ None
+new-behind [] option back once = refl
+new-behind (first ∷ front) option back once =
+    let s = first.setting in
+    let t = option.setting in
+    let later = new-behind front option back once.1 in
+    elim (true-or-false (same_setting t s)) [
+      | inl same ↦
+          (let here : same_setting s t ≡ true = same-setting-sym s t ∙ same in
+          let alike : number_for s (option ∷ back) ≡ Some (digits_value 10 option.number) =
+          rw here refl in
+          let same-name = same-settings t s same in
+          let found = number-behind s front (option ∷ back) (subst (λ r. number_for r front ≡ None)
+          same-name later) ∙ alike in
+          let none = once.0 in
+          absurd (cc))
+      | inr other ↦ rw other later
+    ]
+
+-- and one that is new may stand behind them
+once-push : (front : List Given) (option : Given) → AreOnce front →
+    number_for option.setting front ≡ None → AreOnce (front ++ option ∷ [])
+once-push [] option once new = (refl, tt)
+once-push (first ∷ front) option once new =
+    elim (true-or-false (same_setting option.setting first.setting)) [
+      | inl same ↦ (let new' = rw same at new in absurd (cc))
+      | inr other ↦
+          (let here = same-setting-sym first.setting option.setting ∙ other in (
+            number-behind first.setting front (option ∷ []) once.0 ∙ rw here refl,
+            once-push front option once.1 (rw other at new),
+          ))
+    ]
+
+-- the words of options go on with other words where there are more options
+more-options : (front all : List Given) (rest : List (List ℕ)) →
+    words_of all ≡ words_of front ++ rest →
+    (back : List Given) × (all ≡ front ++ back) × (words_of back ≡ rest)
+more-options [] all rest e = (all, refl, e)
+more-options (option ∷ front) [] rest e = absurd (cc)
+more-options (option ∷ front) (other ∷ all) rest e =
+    let name : name_of other.setting ≡ name_of option.setting = cc in
+    let number : other.number ≡ option.number = cc in
+    let later : words_of all ≡ words_of front ++ rest = cc in
+    let same : other ≡ option = ap₂ (λ s n. record { setting = s; number = n })
+    (name-once other.setting option.setting name) number in
+    let step = more-options front all rest later in (
+      step.0,
+      ap (λ options. other ∷ options) step.1 ∙ ap (λ first. first ∷ front ++ step.0) same,
+      step.2,
+    )
+
+-- the number of each setting where one more option is given
+pub number-push : (s : Setting) (front : List Given) (option : Given) →
+    number_for option.setting front ≡ None → number_for s (front ++ option ∷ [])
+    ≡ cond (same_setting s option.setting) (Some (digits_value 10 option.number))
+    (number_for s front)
+number-push s front option new = elim (true-or-false (same_setting s option.setting)) [
+  | inl same ↦
+      (let none = subst (λ t. number_for t front ≡ None)
+      (sym (same-settings s option.setting same)) new in
+      number-behind s front (option ∷ []) none ∙ rw same refl)
+  | inr other ↦ rw other (unchanged front other)
+]
+  where
+    unchanged : (front : List Given) → same_setting s option.setting ≡ false →
+        number_for s (front ++ option ∷ []) ≡ number_for s front
+    unchanged [] other = rw other refl
+    unchanged (first ∷ front) other =
+        ap (cond (same_setting s first.setting) (Some (digits_value 10 first.number)))
+        (unchanged front other)
+
+-- The words up to a place are a command and options, and an option stands at the place.
+module _ (words : List (List ℕ)) (place : ℕ) (c : Command) (options : List Given)
+    (spell : Spell (take place words) c options) where
+  one-more : place < length words →
+      take (place + 1) words ≡ take place words ++ get_or words place [] ∷ []
+  one-more within = rw add-one (take-suc words place [] within)
+
+  abbrev job-so-far : Job
+  job-so-far = record { command = c; p = or_default Colours (number_for Colours options) }
+
+  pub front-begins : Begin (take place words)
+  front-begins = record {
+    job = job-so-far;
+    more = [];
+    asked = record { options = options; spell = rw append-nil spell; colours = refl };
+  }
+
+  -- what the options are where right words begin so and go on
+  go-on : (rest : List (List ℕ)) (job : Job) → AskFor (take place words ++ rest) job →
+      (back : List Given) × (words_of back ≡ rest) × AllByRecursion (IsRightFor c) back
+      × AreOnce (options ++ back)
+  go-on rest job asked =
+      let all = asked.options in
+      let same : spelling job.command ∷ words_of all ≡ spelling c ∷ (words_of options ++ rest) =
+      sym asked.spell.are ∙ ap (λ front. front ++ rest) spell.are in
+      let first : spelling job.command ≡ spelling c = cc in
+      let later : words_of all ≡ words_of options ++ rest = cc in
+      let more = more-options options all rest later in
+      let command = spelling-once job.command c first in (
+        more.0,
+        more.2,
+        right-back c options more.0 (subst (λ list. AllByRecursion (IsRightFor c) list) more.1
+            (subst (λ d. AllByRecursion (IsRightFor d) all) command asked.spell.right)),
+        subst AreOnce more.1 asked.spell.once,
+      )
+
+  -- the word there is no name of an option that may stand there
+  pub wrong-name : (name : List ℕ) → place < length words → get_or words place [] ≡ name →
+      ((s : Setting) → name ≡ name_of s → allows c s ≡ true → number_for s options ≡ None → ⊥) →
+      IsWrongAt words place
+  wrong-name name within here none = record {
+    within = omega arith;
+    right = front-begins;
+    wrong = λ _ begin. no-option (subst Begin (rw here at (one-more within)) begin);
+    missing = λ end. absurd (omega arith);
+  }
+    where
+      no-option : Begin (take place words ++ name ∷ []) → ⊥
+      no-option begin =
+          let asked = subst (λ list. AskFor list begin.job)
+          (append_assoc (take place words) (name ∷ []) begin.more) begin.asked in
+          let more = go-on (name ∷ begin.more) begin.job asked in
+          from more.0 more.1 more.2 more.3
+        where
+          from : (back : List Given) → words_of back ≡ name ∷ begin.more →
+              AllByRecursion (IsRightFor c) back → AreOnce (options ++ back) → ⊥
+          from [] e right once = absurd (cc)
+          from (option ∷ back) e right once =
+              none option.setting (cc) right.0.0 (new-behind options option back once)
+
+  -- The name of an option that may stand there is there.
+  module _ (s : Setting) (within : place < length words) (here : get_or words place [] ≡ name_of s)
+      (allowed : allows c s ≡ true) (new : number_for s options ≡ None) where
+    with-name : take (place + 1) words ≡ take place words ++ name_of s ∷ []
+    with-name = rw here at (one-more within)
+
+    -- the options with one more
+    with-option : (number : List ℕ) → IsNumberFor s number →
+        Spell (take place words ++ name_of s ∷ number ∷ []) c
+        (options ++ record { setting = s; number = number } ∷ [])
+    with-option number right =
+        let option : Given = record { setting = s; number = number } in
+        record {
+          are = ap (λ front. front ++ name_of s ∷ number ∷ []) spell.are
+              ∙ ap (λ later. spelling c ∷ later) (sym (words-append options (option ∷ [])));
+          right = right-append c options (option ∷ []) spell.right ((allowed, right), tt);
+          once = once-push options option spell.once new;
+        }
+
+    name-begins : Begin (take (place + 1) words)
+    name-begins =
+        let number = a-number s in
+        let all = options ++ record { setting = s; number = number.0 } ∷ [] in
+        record {
+          job = record { command = c; p = or_default Colours (number_for Colours all) };
+          more = number.0 ∷ [];
+          asked = record {
+            options = all;
+            spell = rw (with-name, append_assoc) (with-option number.0 number.1);
+            colours = refl;
+          };
+        }
+
+    -- and its number is missing
+    pub missing-number : place + 1 ≡ length words → IsWrongAt words (place + 1)
+    missing-number end = record {
+      within = omega arith;
+      right = name-begins;
+      wrong = λ inside. absurd (omega arith);
+      missing = λ _ job asked. no-option job (subst (λ list. AskFor list job)
+          (sym (take_all (place + 1) words (omega arith)) ∙ with-name) asked);
+    }
+      where
+        no-option : (job : Job) → AskFor (take place words ++ name_of s ∷ []) job → ⊥
+        no-option job asked =
+            let more = go-on (name_of s ∷ []) job asked in from more.0 more.1
+          where
+            from : (back : List Given) → words_of back ≡ name_of s ∷ [] → ⊥
+            from [] e = absurd (cc)
+            from (option ∷ back) e = absurd (cc)
+
+    -- A word stands behind it.
+    module _ (number : List ℕ) (inside : place + 1 < length words)
+        (next : get_or words (place + 1) [] ≡ number) where
+      with-number : take (place + 2) words ≡ take place words ++ name_of s ∷ number ∷ []
+      with-number =
+          let one : suc (place + 1) ≡ place + 2 = omega arith in
+          let step = rw (one, next, with-name) at (take-suc words (place + 1) [] inside) in
+          step ∙ append_assoc (take place words) (name_of s ∷ []) (number ∷ [])
+
+      -- which is no right number
+      pub wrong-number : (IsNumberFor s number → ⊥) → IsWrongAt words (place + 1)
+      wrong-number none = record {
+        within = omega arith;
+        right = name-begins;
+        wrong = λ _ begin. no-option (subst Begin (two ∙ with-number) begin);
+        missing = λ end. absurd (omega arith);
+      }
+        where
+          two : take (place + 1 + 1) words ≡ take (place + 2) words
+          two = ap (λ n. take n words) (omega arith)
+
+          no-option : Begin (take place words ++ name_of s ∷ number ∷ []) → ⊥
+          no-option begin =
+              let asked = subst (λ list. AskFor list begin.job)
+              (append_assoc (take place words) (name_of s ∷ number ∷ []) begin.more)
+              begin.asked in
+              let more = go-on (name_of s ∷ number ∷ begin.more) begin.job asked in
+              from more.0 more.1 more.2
+            where
+              from : (back : List Given) → words_of back ≡ name_of s ∷ number ∷ begin.more →
+                  AllByRecursion (IsRightFor c) back → ⊥
+              from [] e right = absurd (cc)
+              from (option ∷ back) e right =
+                  let name : name_of option.setting ≡ name_of s = cc in
+                  let word : option.number ≡ number = cc in
+                  none (subst (λ w. IsNumberFor s w) word (subst (λ t. IsNumberFor t option.number)
+                  (name-once option.setting s name) right.0.1))
+
+      -- or which is one
+      pub read-on : IsNumberFor s number → Spell (take (place + 2) words) c
+          (options ++ record { setting = s; number = number } ∷ [])
+      read-on right = rw with-number (with-option number right)
+
+-- where the first word is no command, it is wrong
+pub wrong-command : (words : List (List ℕ)) → ((c : Command) (rest : List (List ℕ)) →
+    words ≡ spelling c ∷ rest → ⊥) → IsWrongAt words 0
+wrong-command words none = record {
+  within = omega arith;
+  right = record {
+    job = record { command = Solve; p = 2 };
+    more = spelling Solve ∷ [];
+    asked = record {
+      options = [];
+      spell = record { are = refl; right = tt; once = tt };
+      colours = refl;
+    };
+  };
+  wrong = λ some begin. no-command words none some begin;
+  missing = λ end job asked. none job.command (words_of asked.options) asked.spell.are;
+}
+  where
+    no-command : (words : List (List ℕ)) → ((c : Command) (rest : List (List ℕ)) →
+        words ≡ spelling c ∷ rest → ⊥) → 0 < length words → Begin (take 1 words) → ⊥
+    no-command [] none some begin = absurd (omega arith)
+    no-command (word ∷ rest) none some begin =
+        let are = begin.asked.spell.are in
+        let first : word ≡ spelling begin.job.command = cc in
+        none begin.job.command rest (ap (λ w. w ∷ rest) first)
+
+-- The front of words that begin right begins right.
+begin-front : (words : List (List ℕ)) (n : ℕ) → Begin words → Begin (take n words)
+begin-front words n begin = record {
+  job = begin.job;
+  more = drop n words ++ begin.more;
+  asked = subst (λ list. AskFor list begin.job) (sym (sym (append_assoc (take n words)
+      (drop n words) begin.more) ∙ ap (λ list. list ++ begin.more) (take-append-drop n words)))
+      begin.asked;
+}
+
+-- so there is one first wrong place
+wrong-order : (words : List (List ℕ)) (a b : ℕ) → IsWrongAt words a → IsWrongAt words b → a < b → ⊥
+wrong-order words a b first second less =
+    let shorter : take (a + 1) (take b words) ≡ take (a + 1) words =
+    take-take (a + 1) b words (omega arith) in
+    first.wrong (omega (arith, second.within))
+    (subst Begin shorter (begin-front (take b words) (a + 1) second.right))
+
+pub wrong-only : (words : List (List ℕ)) (a b : ℕ) → IsWrongAt words a → IsWrongAt words b → a ≡ b
+wrong-only words a b first second = elim (cases_order a b) [
+  | inl same ↦ same
+  | inr rest ↦ elim rest [
+    | inl less ↦ absurd (wrong-order words a b first second less)
+    | inr more ↦ absurd (wrong-order words b a second first more)
+  ]
+]
+
+-- and none in words that ask for a job
+pub asked-not-wrong : (words : List (List ℕ)) (job : Job) (place : ℕ) → AskFor words job →
+    IsWrongAt words place → ⊥
+asked-not-wrong words job place asked wrong =
+    elim (cases_order place (length words)) [
+      | inl end ↦ wrong.missing end job asked
+      | inr rest ↦ elim rest [
+        | inl inside ↦ wrong.wrong inside (begin-front words (place + 1)
+            (record { job = job; more = []; asked = rw append-nil asked }))
+        | inr past ↦ (let within = wrong.within in absurd (omega arith))
+      ]
+    ]
+
+-- which ask for one job
+pub asked-only : (words : List (List ℕ)) (a b : Job) → AskFor words a → AskFor words b → a ≡ b
+asked-only words a b first second =
+    let same : spelling a.command ∷ words_of first.options
+    ≡ spelling b.command ∷ words_of second.options =
+    sym first.spell.are ∙ second.spell.are in
+    let command : spelling a.command ≡ spelling b.command = cc in
+    let words' : words_of first.options ≡ words_of second.options ++ [] = rw append-nil (cc) in
+    let more = more-options second.options first.options [] words' in
+    let none = no-words more.0 more.2 in
+    let options : first.options ≡ second.options =
+    more.1 ∙ ap (λ back. second.options ++ back) none ∙ append-nil second.options in
+    ap₂ (λ c p. record { command = c; p = p }) (spelling-once a.command b.command command)
+    (first.colours ∙ ap (λ list. or_default Colours (number_for Colours list)) options
+    ∙ sym second.colours)
+  where
+    no-words : (options : List Given) → words_of options ≡ [] → options ≡ []
+    no-words [] e = refl
+    no-words (option ∷ options) e = absurd (cc)
+
+-- a command alone was read
+pub read-command : (words : List (List ℕ)) (c : Command) → slice_get words 0 ≡ Some (spelling c) →
+    HasRead c (take 1 words) (record { colours = None })
+read-command [] c e = absurd (cc)
+read-command (word ∷ rest) c e = record {
+  options = [];
+  spell = record {
+    are = ap (λ w. w ∷ []) (some-same word (spelling c) e);
+    right = tt;
+    once = tt;
+  };
+  held = held;
+}
+  where
+    some-same : (a b : List ℕ) → ◌≡◌ {A = Option (List ℕ)} (Some a) (Some b) → a ≡ b
+    some-same a b e = cc
+
+    held : (s : Setting) → held_for s (record { colours = None }) ≡ number_for s []
+    held Colours = refl
+
+-- the first word is missing, or is no command
+pub no-first : (words : List (String Global)) → None ≡ slice_get words 0 →
+    IsWrongAt (texts words) 0
+no-first words none = wrong-command (texts words) (no-command words none)
+  where
+    no-command : (words : List (String Global)) → None ≡ slice_get words 0 →
+        (c : Command) (rest : List (List ℕ)) → texts words ≡ spelling c ∷ rest → ⊥
+    no-command [] none c rest e = absurd (cc)
+    no-command (word ∷ words) none c rest e = absurd (cc)
+
+pub other-first : (words : List (String Global)) (first : String Global) →
+    Some first ≡ slice_get words 0 → ((c : Command) → string_bytes first ≡ spelling c → ⊥) →
+    IsWrongAt (texts words) 0
+other-first words first here other = wrong-command (texts words) (no-command words here)
+  where
+    no-command : (words : List (String Global)) → Some first ≡ slice_get words 0 →
+        (c : Command) (rest : List (List ℕ)) → texts words ≡ spelling c ∷ rest → ⊥
+    no-command [] here c rest e = absurd (cc)
+    no-command (word ∷ words) here c rest e =
+        let same : first ≡ word = cc in
+        let spelt : string_bytes word ≡ spelling c = cc in
+        other c (ap string_bytes same ∙ spelt)
+
+-- numbers are in their ranges, also where none is given
+pub in-range : (s : Setting) (c : Command) (options : List Given) →
+    AllByRecursion (IsRightFor c) options →
+    (least s ≤ or_default s (number_for s options))
+    × (or_default s (number_for s options) ≤ greatest s)
+in-range Colours c [] right = (omega arith, omega arith)
+in-range s c (option ∷ options) right = elim (true-or-false (same_setting s option.setting)) [
+  | inl same ↦
+      (let is = subst (λ t. IsNumberFor t option.number)
+      (sym (same-settings s option.setting same)) right.0.1 in
+      rw same (is.low, is.high))
+  | inr other ↦ rw other (in-range s c options right.1)
+]
+
+pub unwrapped : (s : Setting) (number : Option ℕ) (d : ℕ) → d ≡ default s →
+    unwrap_or number d ≡ or_default s number
+unwrapped s None d e = e
+unwrapped s (Some number) d e = refl

@@ -1,0 +1,10 @@
+pub mod Names
+pub mod Grammar
+pub mod Tidy
+pub mod Covered
+pub mod Behind
+pub mod Charged
+pub mod Once
+pub mod Served
+pub mod Exact
+pub mod Pieces

@@ -1,0 +1,10 @@
+pub mod Best
+pub mod Words
+pub mod Table
+pub mod Reading
+pub mod Heavy
+pub mod Judgement
+pub mod Outcome
+pub mod Answer
+pub mod Front
+pub mod Run

@@ -1,0 +1,63 @@
+-- The status and the text of each outcome.
+use Rattle.std.specs.Prelude.{ℕ, List, [], ◌∷◌, ◌++◌, length, codes, decimal}
+use Rattle.mill_model.specs.declared.order.TheConstants.{MAX_ORDERS}
+use Rattle.instance_text.specs.Fields.{name_of}
+use Rattle.answer_text.specs.declared.answer.Answer.{Answer}
+use Rattle.answer_text.specs.declared.answer.Answer.TheVariants.{Optimal, Feasible, Infeasible}
+use Rattle.answer_text.specs.Text.{answer_text, Fits}
+use Rattle.slab_top.specs.declared.outcome.Refusal.{Refusal}
+use Rattle.slab_top.specs.declared.outcome.Refusal.TheVariants.{TooLong, BadByte, Short, OutOfRange}
+use Rattle.slab_top.specs.declared.outcome.Refusal.TheVariants.{Rest, AnswerLine}
+use Rattle.slab_top.specs.declared.outcome.Outcome.{Outcome}
+use Rattle.slab_top.specs.declared.outcome.Outcome.TheVariants.{WrongWords, Refused, Solved, Judged}
+use Rattle.slab_top.specs.Judgement.{status_of_judgement, words_of_judgement}
+
+-- the status of what `solve` answers; it answers no feasible plan yet
+abbrev pub status_of_answer : Answer → ℕ
+status_of_answer (Optimal loss plan) = 0
+status_of_answer (Infeasible order) = 1
+status_of_answer (Feasible loss plan spent) = 4
+
+abbrev pub status_of : Outcome → ℕ
+status_of (Solved answer) = status_of_answer answer
+status_of WrongWords = 2
+status_of (Refused why) = 3
+status_of (Judged judgement) = status_of_judgement judgement
+
+-- a line of a text, which ends with a line feed
+abbrev pub line : List ℕ → List ℕ
+line text = text ++ 10 ∷ []
+
+abbrev pub usage_line : List ℕ
+usage_line =
+    line (codes "usage: mill_slab solve|prove|check|verify|replay|drill [--workers N] [--nodes N]"
+    ++ codes " [--colours N] [--moves N] [--seed N] [--orders N]")
+
+-- why an input is refused, in the words of the refusal
+abbrev pub reason_of : Refusal → List ℕ
+reason_of (TooLong limit) = codes "long " ++ decimal limit
+reason_of (BadByte at) = codes "instance byte " ++ decimal at
+reason_of (Short token) = codes "instance short token " ++ decimal token
+reason_of (OutOfRange what token) =
+    codes "instance range " ++ name_of what ++ codes " token " ++ decimal token
+reason_of (Rest at) = codes "rest byte " ++ decimal at
+reason_of (AnswerLine number) = codes "answer line " ++ decimal number
+
+abbrev pub text_of : Outcome → List ℕ
+text_of WrongWords = usage_line
+text_of (Refused why) = line (codes "refused " ++ reason_of why)
+text_of (Solved answer) = answer_text answer
+text_of (Judged judgement) = line (words_of_judgement judgement)
+
+-- the numbers of an answer that `solve` gives are within the limits of its text
+abbrev pub IsToldAnswer : Answer → Type 0
+IsToldAnswer (Optimal loss plan) = Fits (length plan) (Optimal loss plan)
+IsToldAnswer (Infeasible order) = Fits MAX_ORDERS (Infeasible order)
+IsToldAnswer (Feasible loss plan spent) = ⊥
+
+-- the outcome is told to a job, by a text
+abbrev pub IsToTell : Outcome → Type 0
+IsToTell WrongWords = ⊥
+IsToTell (Solved answer) = IsToldAnswer answer
+IsToTell (Refused why) = Unit {0}
+IsToTell (Judged judgement) = Unit {0}

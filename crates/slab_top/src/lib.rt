@@ -1,0 +1,23 @@
+//! The program's commands, from the words and the bytes that it is given to its status and text.
+#![tactic(auto)]
+
+mod answer;
+mod check;
+mod judgement;
+mod outcome;
+mod run;
+mod search;
+mod solve;
+mod table;
+mod usage;
+mod words;
+
+pub use run::run_plain;
+pub use words::{Command, Job, Usage, read_words};
+
+#[cfg(test)]
+mod tests;
+#[cfg(test)]
+mod tests_check;
+#[cfg(test)]
+mod tests_words;

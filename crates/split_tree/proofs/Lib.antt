@@ -1,0 +1,6 @@
+mod Joins
+mod Pushes
+mod Walk
+mod Children
+mod Nodes
+mod Losses

@@ -1,0 +1,48 @@
+-- The groups of a path with one more number.
+use Rattle.std.proofs.Common.{ℕ, zero, suc, ◌<◌, ◌≤◌, ◌≡◌, true, false, List, []}
+use Rattle.std.proofs.Common.{◌∷◌, ◌++◌, length, drop, eqb, Some, refl, ap, ◌∙◌, arith}
+use Rattle.std.proofs.Common.{inl, inr, eq-eqb, eqb-true, append-nil}
+use Rattle.std.specs.List.{slice_get}
+use Rattle.mill_model.specs.Sets.{holds}
+use Rattle.mill_model.specs.Plan.{slab}
+use Rattle.mill_model.specs.Tree.{next_new}
+use Rattle.mill_model.specs.declared.order.Order.{Order}
+use Rattle.mill_laws.proofs.Different.{either, or-cases}
+use Rattle.mill_laws.proofs.Duality.{slab-append}
+use Rattle.mill_laws.proofs.Canonical.{slab-unused}
+
+-- the order at a place is the first of those from there on
+pub drop-get : {X : Type 0} (xs : List X) (k : ℕ) (x : X) → slice_get xs k ≡ Some x →
+    drop k xs ≡ x ∷ drop (suc k) xs
+drop-get [] k x e = absurd (cc)
+drop-get (y ∷ xs) zero x e = let same : y ≡ x = cc in ap (λ z. z ∷ xs) same
+drop-get (y ∷ xs) (suc k) x e = drop-get xs k x e
+
+-- a number that is not below the next new one is not in the path, and its group is empty
+holds-next : (s : ℕ) (path : List ℕ) → holds s path ≡ true → s < next_new path
+holds-next s [] h = absurd (cc)
+holds-next s (t ∷ path) h = elim (or-cases (eqb s t) (holds s path) h) [
+  | inl e ↦ omega (arith, eqb-true s t e)
+  | inr e ↦ omega (arith, holds-next s path e)
+]
+
+pub slab-new : (s : ℕ) (path : List ℕ) (orders : List Order) → next_new path ≤ s →
+    slab s path orders ≡ []
+slab-new s path orders l = slab-unused s path orders (elim (either (holds s path)) [
+  | inl h ↦ absurd (omega (arith, holds-next s path h))
+  | inr h ↦ h
+])
+
+module _ (path : List ℕ) (orders : List Order) (g : ℕ) (order : Order)
+    (next : slice_get orders (length path) ≡ Some order) where
+  pub slab-same : slab g (path ++ g ∷ []) orders ≡ slab g path orders ++ order ∷ []
+  slab-same =
+      slab-append g path (g ∷ []) orders ∙ ap (λ xs. slab g path orders
+      ++ slab g (g ∷ []) xs) (drop-get orders (length path) order next)
+      ∙ rw (eq-eqb g g refl) refl
+
+  pub slab-other : (s : ℕ) → eqb s g ≡ false → slab s (path ++ g ∷ []) orders ≡ slab s path orders
+  slab-other s e =
+      slab-append s path (g ∷ []) orders ∙ ap (λ xs. slab s path orders
+      ++ slab s (g ∷ []) xs) (drop-get orders (length path) order next)
+      ∙ rw (e, append-nil) refl

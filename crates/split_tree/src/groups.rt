@@ -1,0 +1,28 @@
+ghost use Rattle.std.specs.Prelude.{◌≡◌, ◌≤◌, length, IfOk};
+ghost use Rattle.slab_rules.specs.Open.{IsWithinBounds, joined};
+ghost use Rattle.split_tree.specs.Groups.{slab_at, with_order};
+
+use mill_model::{Order, OutOfMemory};
+use slab_rules::OpenSlab;
+
+// The slab of a number, or the next new one, takes an order.
+pub(crate) fn join_group(
+    groups: &mut Vec<OpenSlab>,
+    empty: &OpenSlab,
+    group: u16,
+    order: Order,
+) -> Result<(), OutOfMemory>
+    requires number { group ≤ length groups.old.items }
+    requires fits { IsWithinBounds (joined (slab_at empty.now groups.old.items group) order) }
+    ensures { IfOk result (λ _.
+        groups.new.items ≡ with_order empty.now groups.old.items group order) }
+{
+    if let Some(slab) = groups.get_mut(group as usize) {
+        slab.join(order);
+        return Ok(());
+    }
+    let mut slab = empty.copy();
+    slab.join(order);
+    groups.push(slab)?;
+    Ok(())
+}

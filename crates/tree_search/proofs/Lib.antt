@@ -1,0 +1,4 @@
+pub mod Fronts
+pub mod Leaves
+pub mod Searched
+pub mod Steps

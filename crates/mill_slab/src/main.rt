@@ -1,5 +1,5 @@
-//! Solves the instance on standard input: hands the words, standard input and standard output to
-//! the top call, and ends with its status.
+//! Serves the words that it is given: hands them, standard input and standard output to the top
+//! call, and ends with its status.
 #![tactic(auto)]
 
 use mill_io::{StdSink, StdSource};

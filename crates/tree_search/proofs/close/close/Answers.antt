@@ -11,4 +11,4 @@ pub returns : goal.returns
 returns c =
     kids-wait _ _ _ c.requires.ranked c.args.path.now c.in_ok-node.node _ _ _ _ _ _
     c.in_ok-node.ensures c.depth.ensures.is c.depth.ensures.within c.len.ensures.is
-    c.if-depth-len.false c.in_ok-children.ensures c.in_ok-put_first_last.ensures
+    c.if-depth-len.false c.in_ok-children.ensures.is c.in_ok-put_first_last.ensures

@@ -7,13 +7,14 @@ use Rattle.std.proofs.lemmas.List.{map-append, get_or_append_left}
 use Rattle.std.proofs.lemmas.List.Elements.{recursion_from_All}
 use Rattle.mill_model.specs.declared.order.Order.{Order}
 use Rattle.mill_model.specs.Instance.{Problem, IsSize, IsOrder, IsWithin, AreSizesOf}
+use Rattle.line_text.specs.Numbers.{is_digit, value}
 use Rattle.instance_text.specs.declared.field.Field.{Field}
 use Rattle.instance_text.specs.declared.field.Field.TheVariants.{SizeCount, Size, ColourCount}
 use Rattle.instance_text.specs.declared.field.Field.TheVariants.{OrderCount}
 use Rattle.instance_text.specs.declared.error.InstanceError.{InstanceError}
 use Rattle.instance_text.specs.declared.error.InstanceError.TheVariants.{BadByte, Short, OutOfRange}
 use Rattle.instance_text.specs.declared.error.InstanceError.TheVariants.{OutOfMemory}
-use Rattle.instance_text.specs.Words.{Word, is_digit, value, words, end_behind}
+use Rattle.instance_text.specs.Words.{Word, words, end_behind}
 use Rattle.instance_text.specs.Fields.{in_range, IsRight, AreRight, fields, fields_of, judged}
 use Rattle.instance_text.specs.Fields.{number_at, order_fields}
 use Rattle.instance_text.specs.Text.{AreInstance, Begins, IsRefused, numbers_of, numbers_of_orders}

@@ -9,25 +9,28 @@ use Rattle.std.proofs.lemmas.List.{take_rest, drop_all}
 use Rattle.std.proofs.lemmas.List.Elements.{recursion_from_All}
 use Rattle.std.proofs.lemmas.List.Folds.{length-prefix_len}
 use Rattle.std.proofs.lemmas.List.Sums.{prefix_len_stops}
+use Rattle.line_text.specs.Lines.{is_white}
+use Rattle.line_text.specs.Numbers.{is_digit, value}
+use Rattle.line_text.proofs.LeadingDigits.{digits-run}
 use Rattle.instance_text.specs.declared.field.Field.{Field}
 use Rattle.instance_text.specs.declared.field.Field.TheVariants.{SizeCount, Size, ColourCount}
 use Rattle.instance_text.specs.declared.field.Field.TheVariants.{OrderCount, Weight, Colour}
 use Rattle.instance_text.specs.declared.error.InstanceError.{InstanceError}
 use Rattle.instance_text.specs.declared.error.InstanceError.TheVariants.{BadByte, Short, OutOfRange}
-use Rattle.instance_text.specs.Words.{is_space, is_digit, is_cut, value, word, words_from}
+use Rattle.instance_text.specs.Words.{is_cut, word, words_from}
 use Rattle.instance_text.specs.Words.{IsBlankFrom, IsFirstNotBlank}
 use Rattle.instance_text.specs.Fields.{least, greatest, in_range, judged}
 use Rattle.instance_text.specs.declared.reader.Reader.{Reader}
 use Rattle.instance_text.specs.Reading.{Took}
 use Rattle.instance_text.proofs.Ranges.{range_bounds}
-use Rattle.instance_text.proofs.Runs.{words_skip, words_blank, run_front, words_bad, leading_digits}
+use Rattle.instance_text.proofs.Runs.{words_skip, words_blank, run_front, words_bad}
 
 -- no word is left
 pub judged_short : (what : Field) (token : ℕ) (text : List ℕ) (at : ℕ) → IsBlankFrom text at →
     judged what token (words_from at (drop at text)) ≡ Err (Short token)
 judged_short what token text at blank =
     ap (judged what token) (words_blank at (drop at text)
-    (recursion_from_All (λ b. IsTrue (is_space b)) (drop at text) blank))
+    (recursion_from_All (λ b. IsTrue (is_white b)) (drop at text) blank))
 
 -- the words from the first byte that isn't white space on
 to_first : (text : List ℕ) (at start : ℕ) → IsFirstNotBlank text at start →
@@ -44,7 +47,7 @@ from_place text start = take (length text - start) (drop start text)
 
 -- a word goes on only where a byte stands that isn't white space
 goes_on : (text : List ℕ) (end : ℕ) → is_cut (drop end text) ≡ false →
-    (end < length text) × (is_space (get_or text end 0) ≡ false)
+    (end < length text) × (is_white (get_or text end 0) ≡ false)
 goes_on text end over = elim (cases_lt end (length text)) [
   | inl more ↦ (more, ap is_cut (sym (drop_more text end 0 more)) ∙ over)
   | inr none ↦ absurd (both_ways _ over (ap is_cut (drop_all end text none)))
@@ -72,7 +75,7 @@ judged_bad what token text at start count first digits over =
     let split : rest ≡ take n rest ++ byte ∷ drop (n + 1) rest =
     sym (take-append-drop n rest) ∙ ap (λ r. take n rest ++ r) (drop_more rest n 0 more
     ∙ ap (λ b. b ∷ drop (n + 1) rest) same) in
-    let found = words_bad start byte (take n rest) (drop (n + 1) rest) (leading_digits rest) bad
+    let found = words_bad start byte (take n rest) (drop (n + 1) rest) (digits-run rest) bad
     (goes_on text end over).1 in
     let whole : words_from at (drop at text) ≡ found.first ∷ found.others =
     to_first text at start first ∙ ap (words_from start) split ∙ found.split in
@@ -84,17 +87,17 @@ judged_bad what token text at start count first digits over =
     + prefix_len is_digit found.first.bytes)))) found.bad
     ∙ ap (λ i. Err (BadByte i)) place
 
--- the first word is of digits alone, and this is their number, at most the greatest `u32`
+-- the first word is of digits alone, and this is their number, at most the greatest `u64`
 pub record BeginsNumber (text : List ℕ) (at start end number : ℕ) : Type 0 where
   pub digits : List ℕ
   pub are_digits : list_all is_digit digits ≡ true
   pub split : words_from at (drop at text) ≡ word start digits ∷ words_from end (drop end text)
   pub ends : start + length digits ≡ end
-  pub limit : number ≡ min (value digits) (2 ^ 32 - 1)
+  pub limit : number ≡ min (value digits) (2 ^ 64 - 1)
 
 -- some digits stand in front of a byte that isn't white space only where there is one
 some_digit : (text : List ℕ) (start : ℕ) → start < length text →
-    is_space (get_or text start 0) ≡ false →
+    is_white (get_or text start 0) ≡ false →
     is_cut (drop (start + prefix_len is_digit (drop start text)) text) ≡ true →
     0 < prefix_len is_digit (drop start text)
 some_digit text start within solid cut = elim (cases_lt 0 (prefix_len is_digit (drop start text))) [
@@ -109,7 +112,7 @@ some_digit text start within solid cut = elim (cases_lt 0 (prefix_len is_digit (
 
 pub begins_number : (text : List ℕ) (at start count number : ℕ) → IsFirstNotBlank text at start →
     count ≡ prefix_len is_digit (from_place text start) →
-    number ≡ min (value (take count (from_place text start))) (2 ^ 32 - 1) →
+    number ≡ min (value (take count (from_place text start))) (2 ^ 64 - 1) →
     is_cut (drop (start + count) text) ≡ true → BeginsNumber text at start (start + count) number
 begins_number text at start count number first digits limit ends =
     let rest : List ℕ = drop start text in
@@ -125,19 +128,19 @@ begins_number text at start count number first digits limit ends =
     drop-drop n start text ∙ ap (λ i. drop i text) (omega arith) in
     record {
       digits = take n rest;
-      are_digits = leading_digits rest;
+      are_digits = digits-run rest;
       split =
           to_first text at start first
           ∙ ap (words_from start) (sym (take-append-drop n rest) ∙ ap (λ r. take n rest ++ r) after)
-          ∙ run_front start (take n rest) (drop end text) (omega arith) (leading_digits rest) ends
+          ∙ run_front start (take n rest) (drop end text) (omega arith) (digits-run rest) ends
           ∙ ap (λ i. word start (take n rest) ∷ words_from i (drop end text)) place;
       ends = place;
       limit =
-          limit ∙ ap (λ k. min (value (take k (from_place text start))) (2 ^ 32 - 1)) same
-          ∙ ap (λ r. min (value (take n r)) (2 ^ 32 - 1)) (take_rest text start);
+          limit ∙ ap (λ k. min (value (take k (from_place text start))) (2 ^ 64 - 1)) same
+          ∙ ap (λ r. min (value (take n r)) (2 ^ 64 - 1)) (take_rest text start);
     }
 
--- each range is below the greatest `u32`
+-- each range is below the greatest `u64`
 greatest_bound : (what : Field) → greatest what ≤ 1000000
 greatest_bound SizeCount = omega arith
 greatest_bound Size = omega arith
@@ -146,9 +149,9 @@ greatest_bound OrderCount = omega arith
 greatest_bound Weight = omega arith
 greatest_bound Colour = omega arith
 
--- a number that is cut off at the greatest `u32` is in range just where the whole is
-range_same : (what : Field) (n v : ℕ) → n ≡ min v (2 ^ 32 - 1) → in_range what v ≡ in_range what n
-range_same what n v limit = elim (cases_lt v (2 ^ 32)) [
+-- a number that is cut off at the greatest `u64` is in range just where the whole is
+range_same : (what : Field) (n v : ℕ) → n ≡ min v (2 ^ 64 - 1) → in_range what v ≡ in_range what n
+range_same what n v limit = elim (cases_lt v (2 ^ 64)) [
   | inl small ↦ ap (in_range what) (omega arith)
   | inr great ↦
       (let bound = greatest_bound what in

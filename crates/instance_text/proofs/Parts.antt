@@ -3,12 +3,13 @@ use Rattle.std.specs.Prelude.{Err}
 use Rattle.std.proofs.Common.{◌≡◌, ℕ, suc, ◌+◌, List, [], ◌∷◌, ◌++◌, length, refl, ap, sym, ◌∙◌}
 use Rattle.std.proofs.Common.{arith, append_assoc, length-append, subst}
 use Rattle.std.proofs.lemmas.List.{map-append}
+use Rattle.line_text.specs.Numbers.{value}
 use Rattle.instance_text.specs.declared.field.Field.{Field}
 use Rattle.instance_text.specs.declared.error.InstanceError.{InstanceError}
 use Rattle.instance_text.specs.declared.error.InstanceError.TheVariants.{BadByte, Short, OutOfRange}
 use Rattle.instance_text.specs.declared.error.InstanceError.TheVariants.{OutOfMemory}
 use Rattle.instance_text.specs.declared.reader.Reader.{Reader}
-use Rattle.instance_text.specs.Words.{Word, value, end_behind}
+use Rattle.instance_text.specs.Words.{Word, end_behind}
 use Rattle.instance_text.specs.Fields.{judged, AreRight}
 use Rattle.instance_text.specs.Reading.{Took, Stops, Fails, ahead, values}
 

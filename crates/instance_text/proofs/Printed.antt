@@ -1,18 +1,20 @@
 -- What is printed, read again.
 use Rattle.std.specs.Prelude.{flat_map, decimal, IsTrue, ◌^◌}
 use Rattle.std.specs.List.{list_all, AllByRecursion}
-use Rattle.std.proofs.Common.{◌≡◌, ℕ, suc, ◌+◌, ◌-◌, ◌*◌, ◌<◌, Bool, true, false, cond, List, []}
-use Rattle.std.proofs.Common.{◌∷◌, ◌++◌, length, drop, fold, refl, ap, sym, ◌∙◌, arith, rules}
+use Rattle.std.proofs.Common.{◌≡◌, ℕ, suc, ◌+◌, ◌<◌, Bool, true, false, cond, List, []}
+use Rattle.std.proofs.Common.{◌∷◌, ◌++◌, length, drop, refl, ap, sym, ◌∙◌, arith}
 use Rattle.std.proofs.Common.{append_assoc, length-append, subst}
 use Rattle.std.proofs.lemmas.Bool.{and_from}
 use Rattle.std.proofs.lemmas.List.{map-append, append-nil}
 use Rattle.std.proofs.lemmas.List.Folds.{list_all-append}
 use Rattle.std.proofs.lemmas.List.Elements.{recursion_from_All, All-from_recursion}
-use Rattle.std.proofs.lemmas.Str.Parse.{IsNumeralModel, numerals_by_fold}
-use Rattle.std.proofs.lemmas.Fmt.{digits_decimal, digits_value-decimal, decimal_nonempty}
+use Rattle.std.proofs.lemmas.Fmt.{decimal_nonempty}
 use Rattle.mill_model.specs.declared.order.Order.{Order}
 use Rattle.mill_model.specs.Instance.{Problem, IsInstance, IsSize, IsOrder}
-use Rattle.instance_text.specs.Words.{is_space, is_digit, is_cut, value, Word, word, with_byte}
+use Rattle.line_text.specs.Lines.{is_white}
+use Rattle.line_text.specs.Numbers.{is_digit, value}
+use Rattle.line_text.proofs.LeadingDigits.{digits-decimal, value-decimal}
+use Rattle.instance_text.specs.Words.{is_cut, Word, word, with_byte}
 use Rattle.instance_text.specs.Words.{words_from, words, end_behind, IsBlankFrom}
 use Rattle.instance_text.specs.Text.{IsInstanceText, canonical_text, line, order_line}
 use Rattle.instance_text.specs.Text.{numbers_of_orders}
@@ -20,11 +22,6 @@ use Rattle.instance_text.specs.Reading.{values}
 use Rattle.instance_text.proofs.Ranges.{are_digits}
 use Rattle.instance_text.proofs.Runs.{run_front}
 use Rattle.instance_text.proofs.Stages.{counted, counted-orders}
-
--- decimal digits are a numeral
-own : IsNumeralModel (λ ds. list_all is_digit ds ≡ true) value
-own =
-    numerals_by_fold _ (search rules) (λ n ds. fold (λ n b. 10 * n + (b - 48)) n ds) (search rules)
 
 -- the words of a text, before a rest, are of digits and stand for these numbers
 pub record Shown (at : ℕ) (text rest : List ℕ) (numbers : List ℕ) : Type 0 where
@@ -63,16 +60,16 @@ shown_append at t u rest ns ms h k =
 -- a number
 shows_number : (n : ℕ) → n < 2 ^ 64 → Shows (decimal n) (n ∷ [])
 shows_number n small at rest cut =
-    let digits : list_all is_digit (decimal n) ≡ true = digits_decimal own n small in
+    let digits : list_all is_digit (decimal n) ≡ true = digits-decimal n small in
     record {
       shown = word at (decimal n) ∷ [];
       split = run_front at (decimal n) rest (decimal_nonempty n small) digits cut;
       digits = and_from (list_all is_digit (decimal n)) true digits refl;
-      values_are = ap (λ k. k ∷ []) (digits_value-decimal own n small);
+      values_are = ap (λ k. k ∷ []) (value-decimal n small);
     }
 
 -- white space
-shows_space : (b : ℕ) → is_space b ≡ true → ShowsLines (b ∷ []) []
+shows_space : (b : ℕ) → is_white b ≡ true → ShowsLines (b ∷ []) []
 shows_space b space at rest =
     let e : suc at ≡ at + 1 = omega arith in
     record {
@@ -157,14 +154,14 @@ shows_orders (order ∷ orders) h at rest =
 record EndsBlank (at : ℕ) (text : List ℕ) : Type 0 where
   pub length_is : ℕ
   pub ends : end_behind at (words_from at text) ≡ at + length_is
-  pub blank : AllByRecursion (λ b. IsTrue (is_space b)) (drop length_is text)
+  pub blank : AllByRecursion (λ b. IsTrue (is_white b)) (drop length_is text)
 
 -- a text with no word is blank
 blank_where : (at : ℕ) (text : List ℕ) (h : EndsBlank at text) → words_from at text ≡ [] →
-    AllByRecursion (λ b. IsTrue (is_space b)) text
+    AllByRecursion (λ b. IsTrue (is_white b)) text
 blank_where at text h none =
     let zero_is : h.length_is ≡ 0 = omega (arith, h.ends, ap (end_behind at) none) in
-    let P : ℕ → Type 0 = λ n. AllByRecursion (λ b. IsTrue (is_space b)) (drop n text) in
+    let P : ℕ → Type 0 = λ n. AllByRecursion (λ b. IsTrue (is_white b)) (drop n text) in
     subst P zero_is h.blank
 
 -- the first word begins where no white space does
@@ -186,7 +183,7 @@ first_place at (b ∷ text) w ws solid e =
 -- one more byte in front, which is white space (s) or not, before a text where a word goes on or
 -- not
 ends_step : (at b : ℕ) (text : List ℕ) (s cut : Bool) (vs : List Word) → EndsBlank (suc at) text →
-    words_from (suc at) text ≡ vs → is_space b ≡ s → is_cut text ≡ cut →
+    words_from (suc at) text ≡ vs → is_white b ≡ s → is_cut text ≡ cut →
     words_from at (b ∷ text) ≡ cond s vs (with_byte at b cut vs) → EndsBlank at (b ∷ text)
 ends_step at b text true cut [] h rest space over whole =
     record {
@@ -228,7 +225,7 @@ ends_step at b text false false (v ∷ vs) h rest space over whole =
 ends_blank : (at : ℕ) (text : List ℕ) → EndsBlank at text
 ends_blank at [] = record { length_is = 0; ends = omega arith; blank = tt }
 ends_blank at (b ∷ text) =
-    ends_step at b text (is_space b) (is_cut text) (words_from (suc at) text)
+    ends_step at b text (is_white b) (is_cut text) (words_from (suc at) text)
     (ends_blank (suc at) text) refl refl refl refl
 
 -- a number on a line
@@ -281,7 +278,7 @@ canonical_reads problem h =
     let split : words text ≡ all.shown =
     ap (words_from 0) (sym (append-nil text)) ∙ all.split ∙ append-nil all.shown in
     let blank : IsBlankFrom text end.length_is =
-    All-from_recursion (λ b. IsTrue (is_space b)) (drop end.length_is text) end.blank in
+    All-from_recursion (λ b. IsTrue (is_white b)) (drop end.length_is text) end.blank in
     let last : end.length_is ≡ end_behind 0 all.shown =
     omega (arith, sym end.ends ∙ ap (end_behind 0) split) in
     record {

@@ -6,9 +6,10 @@ use Rattle.std.proofs.Common.{replicate, refl, ap, sym, ◌∙◌}
 use Rattle.std.proofs.lemmas.Bool.{and_parts, and_from, leb-true, le-leb}
 use Rattle.mill_model.specs.declared.order.Order.{Order}
 use Rattle.mill_model.specs.Instance.{IsSize, IsOrder}
+use Rattle.line_text.specs.Numbers.{is_digit, value}
 use Rattle.instance_text.specs.declared.field.Field.{Field}
 use Rattle.instance_text.specs.declared.field.Field.TheVariants.{Size, Weight, Colour}
-use Rattle.instance_text.specs.Words.{Word, is_digit, value}
+use Rattle.instance_text.specs.Words.{Word}
 use Rattle.instance_text.specs.Fields.{least, greatest, in_range, AreRight, fields, order_fields}
 use Rattle.instance_text.specs.Text.{numbers_of_orders}
 use Rattle.instance_text.specs.Reading.{values}

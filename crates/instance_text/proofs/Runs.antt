@@ -1,27 +1,28 @@
 -- The words of a text, from its bytes.
 use Rattle.std.specs.Prelude.{IsTrue}
-use Rattle.std.specs.List.{list_all, prefix_len, take_while, AllByRecursion}
+use Rattle.std.specs.List.{list_all, prefix_len, AllByRecursion}
 use Rattle.std.proofs.Common.{◌≡◌, ℕ, zero, suc, ◌+◌, ◌<◌, ◌≤◌, Bool, true, false, cond, List, []}
-use Rattle.std.proofs.Common.{◌∷◌, ◌++◌, length, get_or, drop, refl, ap, sym, ◌∙◌, arith, inl, inr}
-use Rattle.std.proofs.lemmas.Bool.{cases_Bool, and_from, and_parts, and_left, and_right, cond-false}
+use Rattle.std.proofs.Common.{◌∷◌, ◌++◌, length, get_or, drop, refl, ap, sym, ◌∙◌, arith}
+use Rattle.std.proofs.lemmas.Bool.{and_parts, and_left, and_right, cond-false}
 use Rattle.std.proofs.lemmas.Bool.Decides.{nat_tests}
 use Rattle.std.proofs.lemmas.List.{drop_more}
-use Rattle.std.proofs.lemmas.List.Sums.{take_while-cons}
-use Rattle.instance_text.specs.Words.{is_space, is_digit, is_cut, Word, word, with_byte, words_from}
+use Rattle.line_text.specs.Lines.{is_white}
+use Rattle.line_text.specs.Numbers.{is_digit}
+use Rattle.instance_text.specs.Words.{is_cut, Word, word, with_byte, words_from}
 
 -- a digit is no white space
-pub digit_is_solid : (b : ℕ) → is_digit b ≡ true → is_space b ≡ false
+pub digit_is_solid : (b : ℕ) → is_digit b ≡ true → is_white b ≡ false
 digit_is_solid b h = grind (arith, nat_tests)
 
 -- white space in front is passed over
-words_space : (at b : ℕ) (text : List ℕ) → is_space b ≡ true →
+words_space : (at b : ℕ) (text : List ℕ) → is_white b ≡ true →
     words_from at (b ∷ text) ≡ words_from (suc at) text
 words_space at b text e =
     ap (λ c. cond c (words_from (suc at) text) (with_byte at b (is_cut text)
     (words_from (suc at) text))) e
 
 -- a byte that isn't white space belongs to the first word
-words_solid : (at b : ℕ) (text : List ℕ) → is_space b ≡ false →
+words_solid : (at b : ℕ) (text : List ℕ) → is_white b ≡ false →
     words_from at (b ∷ text) ≡ with_byte at b (is_cut text) (words_from (suc at) text)
 words_solid at b text e =
     ap (λ c. cond c (words_from (suc at) text) (with_byte at b (is_cut text)
@@ -34,14 +35,14 @@ with_byte-cut at b (w ∷ ws) = refl
 
 -- white space between two places is passed over
 pub words_skip : (text : List ℕ) (from d : ℕ) → from + d ≤ length text →
-    ((k : ℕ) → from ≤ k → k < from + d → is_space (get_or text k 0) ≡ true) →
+    ((k : ℕ) → from ≤ k → k < from + d → is_white (get_or text k 0) ≡ true) →
     words_from from (drop from text) ≡ words_from (from + d) (drop (from + d) text)
 words_skip text from zero within blank =
     let e : from + 0 ≡ from = omega arith in ap (λ i. words_from i (drop i text)) (sym e)
 words_skip text from (suc d) within blank =
     let e : from + 1 ≡ suc from = omega arith in
     let f : suc from + d ≡ from + suc d = omega arith in
-    let here : is_space (get_or text from 0) ≡ true = blank from (omega arith) (omega arith) in
+    let here : is_white (get_or text from 0) ≡ true = blank from (omega arith) (omega arith) in
     ap (words_from from) (drop_more text from 0 (omega arith))
     ∙ words_space from (get_or text from 0) (drop (from + 1) text) here
     ∙ ap (λ i. words_from (suc from) (drop i text)) e
@@ -49,7 +50,7 @@ words_skip text from (suc d) within blank =
     ∙ ap (λ i. words_from i (drop i text)) f
 
 -- white space alone has no word
-pub words_blank : (at : ℕ) (text : List ℕ) → AllByRecursion (λ b. IsTrue (is_space b)) text →
+pub words_blank : (at : ℕ) (text : List ℕ) → AllByRecursion (λ b. IsTrue (is_white b)) text →
     words_from at text ≡ []
 words_blank at [] blank = refl
 words_blank at (b ∷ text) blank =
@@ -130,7 +131,7 @@ one_more d text e =
     ap (λ t. cond t (1 + prefix_len is_digit text) 0) e ∙ add
 
 pub words_bad : (at b : ℕ) (ds text : List ℕ) → list_all is_digit ds ≡ true →
-    is_digit b ≡ false → is_space b ≡ false → BeginsBad at (length ds) (ds ++ b ∷ text)
+    is_digit b ≡ false → is_white b ≡ false → BeginsBad at (length ds) (ds ++ b ∷ text)
 words_bad at b [] text digits bad solid =
     bad_first at b text (is_cut text) (words_from (suc at) text) bad (words_solid at b text solid)
 words_bad at b (d ∷ ds) text digits bad solid =
@@ -150,20 +151,7 @@ words_bad at b (d ∷ ds) text digits bad solid =
     }
   where
     goes_on : (ds : List ℕ) (b : ℕ) (text : List ℕ) → list_all is_digit ds ≡ true →
-        is_space b ≡ false → is_cut (ds ++ b ∷ text) ≡ false
+        is_white b ≡ false → is_cut (ds ++ b ∷ text) ≡ false
     goes_on [] b text digits solid = solid
     goes_on (d ∷ ds) b text digits solid =
         digit_is_solid d (and_parts (is_digit d) (list_all is_digit ds) digits).0
-
--- the leading digits are digits
-pub leading_digits : (text : List ℕ) →
-    list_all is_digit (take_while is_digit text) ≡ true
-leading_digits [] = refl
-leading_digits (b ∷ text) =
-    let rest : List ℕ = take_while is_digit text in
-    ap (list_all is_digit) (take_while-cons is_digit b text)
-    ∙ elim (cases_Bool (is_digit b)) [
-      | inl digit ↦ ap (λ t. list_all is_digit (cond t (b ∷ rest) [])) digit
-          ∙ and_from (is_digit b) (list_all is_digit rest) digit (leading_digits text)
-      | inr other ↦ ap (λ t. list_all is_digit (cond t (b ∷ rest) [])) other
-    ]

@@ -7,6 +7,7 @@ use Rattle.std.proofs.lemmas.List.{map-append, get_or_append_left, append-nil, l
 use Rattle.std.proofs.lemmas.List.Elements.{All-from_recursion}
 use Rattle.mill_model.specs.declared.order.Order.{Order}
 use Rattle.mill_model.specs.Instance.{IsSize, IsOrder}
+use Rattle.line_text.specs.Numbers.{value}
 use Rattle.instance_text.specs.declared.field.Field.{Field}
 use Rattle.instance_text.specs.declared.field.Field.TheVariants.{SizeCount, Size, ColourCount}
 use Rattle.instance_text.specs.declared.field.Field.TheVariants.{OrderCount}
@@ -14,7 +15,7 @@ use Rattle.instance_text.specs.declared.error.InstanceError.{InstanceError}
 use Rattle.instance_text.specs.declared.error.InstanceError.TheVariants.{BadByte, Short, OutOfRange}
 use Rattle.instance_text.specs.declared.error.InstanceError.TheVariants.{OutOfMemory}
 use Rattle.instance_text.specs.declared.reader.Reader.{Reader}
-use Rattle.instance_text.specs.Words.{Word, value, words, words_from, end_behind}
+use Rattle.instance_text.specs.Words.{Word, words, words_from, end_behind}
 use Rattle.instance_text.specs.Fields.{fields, fields_of, judged, number_at, order_fields}
 use Rattle.instance_text.specs.Text.{numbers_of, numbers_of_orders, IsRefused}
 use Rattle.instance_text.specs.Answer.{HasCause}

@@ -2,12 +2,13 @@
 use Rattle.std.specs.Prelude.{ℕ, zero, suc, ◌+◌, nat_le, Bool, ◌&&◌, cond, List, [], ◌∷◌, ◌++◌, map}
 use Rattle.std.specs.Prelude.{get_or, replicate, codes, IsTrue, Result, Ok, Err}
 use Rattle.std.specs.List.{list_all, prefix_len}
+use Rattle.line_text.specs.Numbers.{is_digit, value}
 use Rattle.instance_text.specs.declared.field.Field.{Field}
 use Rattle.instance_text.specs.declared.field.Field.TheVariants.{SizeCount, Size, ColourCount}
 use Rattle.instance_text.specs.declared.field.Field.TheVariants.{OrderCount, Weight, Colour}
 use Rattle.instance_text.specs.declared.error.InstanceError.{InstanceError}
 use Rattle.instance_text.specs.declared.error.InstanceError.TheVariants.{BadByte, Short, OutOfRange}
-use Rattle.instance_text.specs.Words.{Word, is_digit, value}
+use Rattle.instance_text.specs.Words.{Word}
 
 abbrev pub name_of : Field → List ℕ
 name_of SizeCount = codes "sizecount"

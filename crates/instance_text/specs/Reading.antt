@@ -4,12 +4,13 @@ use Rattle.std.specs.Prelude.{Err}
 use Rattle.std.specs.List.{list_all}
 use Rattle.mill_model.specs.declared.order.Order.{Order}
 use Rattle.mill_model.specs.Instance.{IsWithin}
+use Rattle.line_text.specs.Numbers.{is_digit, value}
 use Rattle.instance_text.specs.declared.field.Field.{Field}
 use Rattle.instance_text.specs.declared.error.InstanceError.{InstanceError}
 use Rattle.instance_text.specs.declared.error.InstanceError.TheVariants.{BadByte, Short, OutOfRange}
 use Rattle.instance_text.specs.declared.error.InstanceError.TheVariants.{OutOfMemory}
 use Rattle.instance_text.specs.declared.reader.Reader.{Reader}
-use Rattle.instance_text.specs.Words.{Word, is_digit, value, words, words_from, end_behind}
+use Rattle.instance_text.specs.Words.{Word, words, words_from, end_behind}
 use Rattle.instance_text.specs.Fields.{judged, AreRight}
 use Rattle.instance_text.specs.Text.{numbers_of}
 

@@ -4,9 +4,10 @@ use Rattle.std.specs.Prelude.{IsTrue, Err}
 use Rattle.std.specs.List.{list_all}
 use Rattle.mill_model.specs.declared.order.Order.{Order}
 use Rattle.mill_model.specs.Instance.{Problem, IsWithin, AreSizesOf}
+use Rattle.line_text.specs.Numbers.{is_digit, value}
 use Rattle.instance_text.specs.declared.field.Field.{Field}
 use Rattle.instance_text.specs.declared.error.InstanceError.{InstanceError}
-use Rattle.instance_text.specs.Words.{Word, is_digit, value, words, end_behind, IsBlankFrom}
+use Rattle.instance_text.specs.Words.{Word, words, end_behind, IsBlankFrom}
 use Rattle.instance_text.specs.Words.{IsFirstNotBlank}
 use Rattle.instance_text.specs.Fields.{fields_of, judged, AreRight}
 

@@ -34,7 +34,7 @@ impl Field {
     }
 
     /// Whether a number is in the range of this field.
-    pub fn admits(self, number: u32) -> bool
+    pub fn admits(self, number: u64) -> bool
         ensures { result ≡ in_range self number }
     {
         match self {

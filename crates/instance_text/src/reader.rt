@@ -1,13 +1,14 @@
 ghost use Rattle.std.specs.Prelude.{◌≡◌, suc, ◌+◌, ◌-◌, ◌*◌, ◌^◌, ◌<◌, ◌≤◌, [], ◌∷◌, length};
 ghost use Rattle.std.specs.Prelude.{take, replicate, min, IfOk, IfErr, Err};
 ghost use Rattle.std.specs.List.{prefix_len};
+ghost use Rattle.line_text.specs.Numbers.{is_digit, value};
 ghost use Rattle.instance_text.specs.declared.field.Field.TheVariants.{Size, Weight, Colour};
-ghost use Rattle.instance_text.specs.Words.{is_digit, value};
 ghost use Rattle.instance_text.specs.Fields.{greatest, judged, least, order_fields};
 ghost use Rattle.instance_text.specs.Text.{numbers_of_orders};
 
 use crate::blank::{first_not_blank, is_word_end};
 use crate::{Field, InstanceError};
+use line_text::leading_digits;
 use mill_model::Order;
 use std::alloc::Global;
 
@@ -54,7 +55,7 @@ impl<'a> Reader<'a> {
         let Some(start) = first_not_blank(self.bytes, self.at) else {
             return Err(InstanceError::Short { token });
         };
-        let (number, count) = digits_in_front(&self.bytes[start..]);
+        let (count, number) = leading_digits(&self.bytes[start..]);
         let end = start + count;
         if !is_word_end(self.bytes, end) {
             return Err(InstanceError::BadByte { at: end });
@@ -64,7 +65,7 @@ impl<'a> Reader<'a> {
         }
         self.at = end;
         self.tokens = token;
-        Ok(number)
+        Ok(number as u32)
     }
 
     /// So many sizes.
@@ -108,21 +109,4 @@ impl<'a> Reader<'a> {
         }
         Ok(orders)
     }
-}
-
-/// The number of the digits in front, at most the greatest `u32`, and how many they are.
-fn digits_in_front(text: &[u8]) -> (u32, usize)
-    ensures number { result.0 ≡ min (value (take result.1 text.now)) (2 ^ 32 - 1) }
-    ensures count { result.1 ≡ prefix_len is_digit text.now }
-{
-    let mut number = 0u32;
-    for (count, byte) in text.iter().enumerate() {
-        if !byte.is_ascii_digit() {
-            return (number, count);
-        }
-        number = number
-            .saturating_mul(10)
-            .saturating_add((*byte - b'0') as u32);
-    }
-    (number, text.len())
 }

@@ -1,4 +1,5 @@
 pub mod Cuts
+pub mod LeadingDigits
 pub mod Numerals
 pub mod Items
 pub mod Signed

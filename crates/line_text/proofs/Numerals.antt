@@ -1,58 +1,21 @@
 -- A word is a canonical number where its digits are, and then it is `decimal` of their value.
-use Rattle.std.proofs.Common.{ℕ, zero, suc, ◌+◌, ◌-◌, ◌*◌, ◌^◌, ◌<◌, ◌≤◌, ◌≡◌, ◌⊎◌, inl, inr, Bool}
-use Rattle.std.proofs.Common.{true, false, not, ◌&&◌, List, [], ◌∷◌, ◌++◌, length, take, drop}
-use Rattle.std.proofs.Common.{get_or, fold, eqb, leb, refl, sym, ap, ap₂, ◌∙◌, arith, rules, eq-eqb}
+use Rattle.std.proofs.Common.{ℕ, zero, suc, ◌+◌, ◌-◌, ◌^◌, ◌<◌, ◌≤◌, ◌≡◌, ◌⊎◌, inl, inr}
+use Rattle.std.proofs.Common.{true, false, not, List, [], ◌∷◌, ◌++◌, length, take, drop}
+use Rattle.std.proofs.Common.{get_or, eqb, refl, sym, ap, ap₂, ◌∙◌, arith, eq-eqb}
 use Rattle.std.proofs.Common.{eqb-true, take_all, slice_range, min, ◌≢◌}
 use Rattle.std.proofs.lemmas.Bool.{cases_Bool, and_parts}
 use Rattle.std.proofs.lemmas.List.{append-nil}
 use Rattle.std.proofs.lemmas.List.Splits.{join_with_byte-slice_split}
-use Rattle.std.proofs.lemmas.Str.Parse.{IsNumeralModel, numerals_by_fold}
-use Rattle.std.proofs.lemmas.Fmt.{digits_decimal, digits_value-decimal, decimal-digits_value}
+use Rattle.std.specs.List.{list_all}
 use Rattle.std.proofs.lemmas.Fmt.{decimal_nonempty, first_decimal, decimal_digit, decimal_injective}
 use Rattle.std.specs.Fmt.{decimal}
 use Rattle.std.proofs.lemmas.Bool.Decides.{nat_tests}
 use Rattle.std.proofs.Math.Seq.{take-append_seam, get_or-append_seam}
 use Rattle.line_text.specs.Words.{line_words, line_of, BeginsWith}
 use Rattle.line_text.proofs.Cuts.{lacks, words-alone, words-first, at-place, range-drop}
-use Rattle.line_text.specs.Numbers.{run, value, is_canonical}
-
-abbrev is_digit : ℕ → Bool
-is_digit b = leb 48 b && leb b 57
-
-abbrev IsDigits : List ℕ → Bool
-IsDigits [] = true
-IsDigits (d ∷ digits) = is_digit d && IsDigits digits
-
--- `value` is what digits stand for, in std's words
-own : IsNumeralModel (λ digits. IsDigits digits ≡ true) value
-own =
-    numerals_by_fold _ (search rules) (λ n digits. fold (λ n b. 10 * n + (b - 48)) n digits)
-    (search rules)
-
--- the digits in front are digits
-digits-run : (bytes : List ℕ) → IsDigits (take (run bytes) bytes) ≡ true
-digits-run [] = refl
-digits-run (b ∷ bytes) = elim (cases_Bool (is_digit b)) [
-  | inl d ↦ rw (d, d) (digits-run bytes)
-  | inr d ↦ rw d refl
-]
-
--- whether no digit stands in front
-abbrev ends : List ℕ → Bool
-ends [] = true
-ends (b ∷ bytes) = not (is_digit b)
-
-run-digits : (digits rest : List ℕ) → IsDigits digits ≡ true → ends rest ≡ true
-    → run (digits ++ rest) ≡ length digits
-run-digits [] [] h e = refl
-run-digits [] (b ∷ rest) h e = let k : is_digit b ≡ false = not-true (is_digit b) e in rw k refl
-  where
-    not-true : (x : Bool) → not x ≡ true → x ≡ false
-    not-true true y = sym y
-    not-true false y = refl
-run-digits (d ∷ digits) rest h e =
-    rw (and_parts (is_digit d) (IsDigits digits) h).0
-    (ap suc (run-digits digits rest (and_parts (is_digit d) (IsDigits digits) h).1 e))
+use Rattle.line_text.specs.Numbers.{is_digit, value, is_canonical}
+use Rattle.line_text.proofs.LeadingDigits.{digits-decimal, value-decimal, decimal-value, run}
+use Rattle.line_text.proofs.LeadingDigits.{digits-run, run-digits}
 
 canonical-from : (digits : List ℕ) → 0 < length digits
     → (get_or digits 0 0 ≡ 48 → length digits ≡ 1) → is_canonical digits ≡ true
@@ -80,7 +43,7 @@ pub canonical-decimal : (bytes : List ℕ) → is_canonical (take (run bytes) by
     → take (run bytes) bytes ≡ decimal (value (take (run bytes) bytes))
 canonical-decimal bytes c h =
     let k = canonical-to (take (run bytes) bytes) c in
-    sym (decimal-digits_value own (take (run bytes) bytes) (digits-run bytes) k.0 k.1 h)
+    sym (decimal-value (take (run bytes) bytes) (digits-run bytes) k.0 k.1 h)
 
 is_canonical-decimal : (n : ℕ) → n < 2 ^ 64 → is_canonical (decimal n) ≡ true
 is_canonical-decimal n small =
@@ -111,8 +74,8 @@ pub begins-number : (line : List ℕ) (n : ℕ) → n < 2 ^ 64
 begins-number line n small b =
     from (first-word line (decimal n) b.more b.is)
   where
-    digits : IsDigits (decimal n) ≡ true
-    digits = digits_decimal own n small
+    digits : list_all is_digit (decimal n) ≡ true
+    digits = digits-decimal n small
 
     whole : run (decimal n) ≡ length (decimal n)
     whole = rw (append-nil (decimal n)) at (run-digits (decimal n) [] digits refl)
@@ -122,7 +85,7 @@ begins-number line n small b =
     from (inl e) = record {
       digits = rw (e, whole) (take_all (length (decimal n)) (decimal n) (omega arith));
       canonical = is_canonical-decimal n small;
-      valued = digits_value-decimal own n small;
+      valued = value-decimal n small;
       ended = inl (rw e whole);
     }
     from (inr p) =
@@ -131,27 +94,28 @@ begins-number line n small b =
         record {
           digits = rw (p.1, r) (take-append_seam (decimal n) (32 ∷ p.0));
           canonical = is_canonical-decimal n small;
-          valued = digits_value-decimal own n small;
+          valued = value-decimal n small;
           ended = inr (rw (p.1, r) (get_or-append_seam (decimal n) 32 p.0 0));
         }
 
 -- digits have no byte that is no digit
-digits-lack : (c : ℕ) (digits : List ℕ) → c < 48 → IsDigits digits ≡ true → lacks c digits ≡ true
+digits-lack : (c : ℕ) (digits : List ℕ) → c < 48 → list_all is_digit digits ≡ true
+    → lacks c digits ≡ true
 digits-lack c [] small h = refl
 digits-lack c (d ∷ digits) small h =
     let e : eqb d c ≡ false =
-    other d (and_parts (is_digit d) (IsDigits digits) h).0 in
-    rw e (digits-lack c digits small (and_parts (is_digit d) (IsDigits digits) h).1)
+    other d (and_parts (is_digit d) (list_all is_digit digits) h).0 in
+    rw e (digits-lack c digits small (and_parts (is_digit d) (list_all is_digit digits) h).1)
   where
     other : (d : ℕ) → is_digit d ≡ true → eqb d c ≡ false
     other d h = grind (arith, nat_tests)
 
 pub lacks-decimal : (c n : ℕ) → c < 48 → n < 2 ^ 64 → lacks c (decimal n) ≡ true
-lacks-decimal c n below small = digits-lack c (decimal n) below (digits_decimal own n small)
+lacks-decimal c n below small = digits-lack c (decimal n) below (digits-decimal n small)
 
 -- The digits in front are counted, and `n` is what they stand for, as far as 64 bits go.
 module _ (line : List ℕ) (count n limit : ℕ) (counted : count ≡ run line)
-    (valued : n ≡ min (value (take (run line) line)) (2 ^ 64 - 1)) (small : limit < 2 ^ 64 - 1)
+    (valued : n ≡ min (value (take count line)) (2 ^ 64 - 1)) (small : limit < 2 ^ 64 - 1)
   where
     pub refused-leading_zero : (number : ℕ) → number ≤ limit
         → is_canonical (take count line) ≡ false →
@@ -165,7 +129,7 @@ module _ (line : List ℕ) (count n limit : ℕ) (counted : count ≡ run line)
         → ¬ (BeginsWith (line_words line) (decimal number ∷ []))
     refused-large number l h b =
         let s = begins-number line number (omega arith) b in
-        let e : n ≡ min number (2 ^ 64 - 1) = rw (s.digits, s.valued) at valued in
+        let e : n ≡ min number (2 ^ 64 - 1) = rw (counted, s.digits, s.valued) at valued in
         omega arith
 
     pub refused-behind : (number : ℕ) → number ≤ limit → count ≢ length line
@@ -178,6 +142,7 @@ module _ (line : List ℕ) (count n limit : ℕ) (counted : count ≡ run line)
       digits : take count line ≡ decimal n
       digits =
           let c : is_canonical (take (run line) line) ≡ true = rw counted at canonical in
+          let v : n ≡ min (value (take (run line) line)) (2 ^ 64 - 1) = rw counted at valued in
           let e : n ≡ value (take (run line) line) = omega arith in
           rw (counted, e) (canonical-decimal line c (omega arith))
 
@@ -215,12 +180,12 @@ one-number words m n behind e b k l =
 -- a number doesn't begin with a minus
 pub digits-no_minus : (n : ℕ) (digits word : List ℕ) → n < 2 ^ 64 → decimal n ≡ digits
     → digits ≢ 45 ∷ word
-digits-no_minus n digits word small e f = no (decimal n) (digits_decimal own n small) (e ∙ f)
+digits-no_minus n digits word small e f = no (decimal n) (digits-decimal n small) (e ∙ f)
   where
-    no : (digits : List ℕ) → IsDigits digits ≡ true → digits ≢ 45 ∷ word
+    no : (digits : List ℕ) → list_all is_digit digits ≡ true → digits ≢ 45 ∷ word
     no [] h e = cc
     no (d ∷ digits) h e =
-        let k : is_digit d ≡ true = (and_parts (is_digit d) (IsDigits digits) h).0 in
+        let k : is_digit d ≡ true = (and_parts (is_digit d) (list_all is_digit digits) h).0 in
         let l : d ≡ 45 = cc in
         let z : is_digit 45 ≡ true = rw l at k in
         let y : false ≡ true = z in

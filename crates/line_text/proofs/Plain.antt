@@ -1,7 +1,8 @@
 -- Words with neither spaces nor line feeds: their lines and texts are cut into them again.
 use Rattle.std.proofs.Common.{ℕ, suc, ◌+◌, ◌^◌, ◌<◌, ◌≡◌, Bool, true, not, ◌&&◌, List, []}
 use Rattle.std.proofs.Common.{◌∷◌, ◌++◌, flat_map, length, All, ℤ, pos, negsuc, eqb, refl, sym, ap}
-use Rattle.std.proofs.Common.{◌∙◌, arith}
+use Rattle.std.proofs.Common.{◌∙◌, arith, append_assoc}
+use Rattle.std.proofs.lemmas.Fmt.{decimal_injective}
 use Rattle.std.proofs.lemmas.Int.{ints}
 use Rattle.std.proofs.lemmas.Bool.{and_parts, and_from}
 use Rattle.std.proofs.lemmas.List.{append-nil}
@@ -110,3 +111,28 @@ lines-text [] h = refl
 lines-text (line ∷ lines) h =
     let p = and_parts (lacks 10 line) (list_all (lacks 10) lines) h in
     lines-first line (text_of lines) p.0 ∙ ap (λ rest. line ∷ rest) (lines-text lines p.1)
+
+pub text_of-append : (xs ys : List (List ℕ)) → text_of (xs ++ ys) ≡ text_of xs ++ text_of ys
+text_of-append [] ys = refl
+text_of-append (x ∷ xs) ys =
+    ap (λ l. x ++ 10 ∷ l) (text_of-append xs ys)
+    ∙ sym (append_assoc x (10 ∷ text_of xs) (text_of ys))
+
+-- the words of a list of things stand for one list
+pub ordinals-injective : (most : ℕ) (xs ys : List ℕ) → most < 2 ^ 63 → All (λ x. x < most) xs
+    → All (λ y. y < most) ys → ordinals xs ≡ ordinals ys → xs ≡ ys
+ordinals-injective most [] [] small h k e = refl
+ordinals-injective most [] (y ∷ ys) small h k e =
+    absurd (let z : [] ≡ ordinal y ∷ ordinals ys = e in cc)
+ordinals-injective most (x ∷ xs) [] small h k e =
+    absurd (let z : ordinal x ∷ ordinals xs ≡ [] = e in cc)
+ordinals-injective most (x ∷ xs) (y ∷ ys) small h k e =
+    let z : ordinal x ∷ ordinals xs ≡ ordinal y ∷ ordinals ys = e in
+    let d : ordinal x ≡ ordinal y = cc in let t : ordinals xs ≡ ordinals ys = cc in
+    let l : x < most = All-head (λ n. n < most) x xs h in
+    let m : y < most = All-head (λ n. n < most) y ys k in
+    let s : x + 1 ≡ y + 1 = decimal_injective (x + 1) (y + 1) (omega arith) (omega arith) d in
+    let same : x ≡ y = omega arith in
+    let rest : xs ≡ ys = ordinals-injective most xs ys small
+    (All-tail (λ n. n < most) x xs h) (All-tail (λ n. n < most) y ys k) t in
+    cc

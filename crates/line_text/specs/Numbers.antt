@@ -1,6 +1,6 @@
 -- Numbers as words.
-use Rattle.std.specs.Prelude.{ℕ, suc, ◌+◌, ◌-◌, ◌*◌, Bool, true, false, not, cond, ◌&&◌, List, []}
-use Rattle.std.specs.Prelude.{◌∷◌, map, fold, eqb, leb, ℤ, pos, ◌-ℤ◌, ◌≤ℤ◌}
+use Rattle.std.specs.Prelude.{ℕ, ◌+◌, ◌-◌, ◌*◌, Bool, true, false, not, ◌&&◌, List, [], ◌∷◌, map}
+use Rattle.std.specs.Prelude.{fold, eqb, nat_le, ℤ, pos, ◌-ℤ◌, ◌≤ℤ◌}
 use Rattle.std.specs.Fmt.{decimal, signed_decimal}
 
 -- the word of a thing that is counted from 0: its number counted from 1
@@ -17,14 +17,13 @@ signed_numbers numbers = map signed_decimal numbers
 abbrev pub IsWithin : ℕ → ℤ → Type 0
 IsWithin limit number = ((pos 0 -ℤ pos limit) ≤ℤ number) × (number ≤ℤ pos limit)
 
--- how many digits stand in front
-abbrev pub run : List ℕ → ℕ
-run [] = 0
-run (b ∷ bytes) = cond (leb 48 b && leb b 57) (suc (run bytes)) 0
+-- whether a byte is a digit
+abbrev pub is_digit : ℕ → Bool
+is_digit byte = nat_le 48 byte && nat_le byte 57
 
 -- what digits stand for
 abbrev pub value : List ℕ → ℕ
-value digits = fold (λ n b. 10 * n + (b - 48)) 0 digits
+value digits = fold (λ n digit. 10 * n + (digit - 48)) 0 digits
 
 -- whether digits are 0, or have no 0 in front
 abbrev pub is_canonical : List ℕ → Bool

@@ -1,5 +1,6 @@
 ghost use Rattle.std.specs.Prelude.{◌≡◌, ◌<◌, ◌≤◌, ◌^◌, ◌∷◌, [], length, IfSome, IfNone};
 ghost use Rattle.line_text.specs.Lines.{text_lines, is_white, is_blank, is_end, first_filled};
+ghost use Rattle.line_text.specs.Words.{BeginsWith};
 
 use memchr::memchr;
 use std::marker::Model;
@@ -51,6 +52,15 @@ impl<'a> Lines<'a> {
         }
     }
 
+    /// The next line, which is still to be read.
+    pub fn peek(&self) -> Option<&'a [u8]>
+        ensures some { IfSome result (λ line. BeginsWith self.now (line.now ∷ [])) }
+        ensures none { IfNone result (self.now ≡ []) }
+    {
+        let mut ahead = Lines { rest: self.rest };
+        ahead.next_line()
+    }
+
     /// The place, from 0, of the first line that has more than white space.
     pub fn first_filled(mut self) -> Option<u64>
         requires { length self < 2 ^ 64 }
@@ -80,7 +90,8 @@ fn is_blank(line: &[u8]) -> bool
     line.iter().all(|byte| is_white(*byte))
 }
 
-fn is_white(byte: u8) -> bool
+/// Whether a byte is white space: a space, a tab, a line feed or a carriage return.
+pub fn is_white(byte: u8) -> bool
     ensures { result ≡ is_white byte }
 {
     matches!(byte, b' ' | b'\t' | b'\n' | b'\r')

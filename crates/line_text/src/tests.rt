@@ -1,5 +1,26 @@
-use crate::{Lines, Words, is_end, push_number, push_ordinals, push_signed_numbers};
+use crate::{
+    Lines, Words, is_end, is_white, leading_digits, push_number, push_ordinals, push_signed_numbers,
+};
 use std::test::Fail;
+
+#[test]
+fn reads_digits_and_white_space(rt: HostRuntime) {
+    let rows: [(&[u8], (usize, u64)); 6] = [
+        (b"", (0, 0)),
+        (b"x1", (0, 0)),
+        (b"0042x7", (4, 42)),
+        (b"18446744073709551614", (20, 18_446_744_073_709_551_614)),
+        (b"18446744073709551616", (20, u64::MAX)),
+        (b"184467440737095516150 1", (21, u64::MAX)),
+    ];
+    for (bytes, want) in rows {
+        assert_eq!(rt; leading_digits(bytes), want);
+    }
+    let whites = [(b' ', true), (b'\r', true), (0x0b, false), (b'0', false)];
+    for (byte, want) in whites {
+        assert_eq!(rt; is_white(byte), want);
+    }
+}
 
 #[test]
 fn reads_numbers(rt: HostRuntime) {

@@ -3,9 +3,10 @@ ghost use Rattle.std.specs.Prelude.{drop, All, IsTrue, ◌↔◌, IfOk, IfSome, 
 ghost use Rattle.std.specs.Prelude.{ℤ, min};
 ghost use Rattle.std.specs.Fmt.{decimal, signed_decimal};
 ghost use Rattle.line_text.specs.Words.{line_words, BeginsWith};
-ghost use Rattle.line_text.specs.Numbers.{ordinal, ordinals, signed_numbers, IsWithin, run, value};
+ghost use Rattle.line_text.specs.Numbers.{ordinal, ordinals, signed_numbers, IsWithin};
 ghost use Rattle.line_text.specs.Numbers.{is_canonical};
 
+use crate::digits::leading_digits;
 use memchr::memchr;
 use std::alloc::{AllocError, Global};
 use std::marker::Model;
@@ -277,26 +278,6 @@ fn negative_behind<'a>(amount: &'a [u8], limit: u64) -> Option<(i64, Words<'a>)>
         return None;
     }
     Some((-(number as i64), behind))
-}
-
-// The digits in front: how many, and what they stand for, at most the greatest `u64`.
-fn leading_digits(bytes: &[u8]) -> (usize, u64)
-    ensures count { result.0 ≡ run bytes.now }
-    ensures within { result.0 ≤ length bytes.now }
-    ensures value { result.1 ≡ min (value (take (run bytes.now) bytes.now)) (2 ^ 64 - 1) }
-{
-    let mut count = 0usize;
-    let mut number = 0u64;
-    for byte in bytes {
-        if *byte < 48 || *byte > 57 {
-            return (count, number);
-        }
-        number = number
-            .saturating_mul(10)
-            .saturating_add(u64::from(*byte - 48));
-        count += 1;
-    }
-    (count, number)
 }
 
 fn is_canonical(digits: &[u8]) -> bool

@@ -10,8 +10,8 @@ use Rattle.mill_model.specs.Instance.{IsSize, largest, loss_charge}
 use Rattle.loss_table.proofs.LeastSizes.{IsPart, part-later, size_for-inside, size_for-outside}
 use Rattle.loss_table.proofs.LeastSizes.{largest-outside}
 
--- the charges of the loads so far
-pub record AreCharges (sizes table : List ℕ) : Type 0 where
+-- the charges of the first loads
+pub record AreFirstCharges (sizes table : List ℕ) : Type 0 where
   pub each : (load : ℕ) → load < length table → get_or table load 0 ≡ loss_charge sizes load
   pub small : All (λ charge. charge ≤ 100000000) table
 
@@ -30,8 +30,8 @@ charge-outside sizes load over =
 
 -- one more load is charged
 pub charges-push : (sizes table : List ℕ) (i load : ℕ) → All IsSize sizes →
-    AreCharges sizes table → length table ≡ load → 0 < load → IsPart sizes load i →
-    i < length sizes → AreCharges sizes (table ++ (get_or sizes i 0 - load) ∷ [])
+    AreFirstCharges sizes table → length table ≡ load → 0 < load → IsPart sizes load i →
+    i < length sizes → AreFirstCharges sizes (table ++ (get_or sizes i 0 - load) ∷ [])
 charges-push sizes table i load sizes-fit before count some part l = record {
   each = λ n more. elim (eq-or-lt_of_le {n = n} {m = length table} (push-length n more)) [
     | inl e ↦ get_or_push table _ 0 n (sym e)
@@ -51,10 +51,10 @@ charges-push sizes table i load sizes-fit before count some part l = record {
 
 -- what the next load of a size leaves of a table
 pub load-step : (sizes table table' : List ℕ) (i low load : ℕ) → IsStrictlyIncreasing sizes →
-    All IsSize sizes → AreCharges sizes table → length table ≡ load → 1 ≤ low →
+    All IsSize sizes → AreFirstCharges sizes table → length table ≡ load → 1 ≤ low →
     IsPart sizes low i → i < length sizes → low ≤ load → load < get_or sizes i 0 + 1 →
     table' ≡ table ++ (get_or sizes i 0 - load) ∷ [] →
-    AreCharges sizes table' × (length table' ≡ load + 1)
+    AreFirstCharges sizes table' × (length table' ≡ load + 1)
 load-step sizes table table' i low load rise fit charges count some part l up enough pushed =
     let here : IsPart sizes load i = part-later sizes low load i rise part l up (omega arith) in
     rw pushed (
@@ -63,7 +63,7 @@ load-step sizes table table' i low load rise fit charges count some part l up en
     )
 
 -- a full table has the charge of each load
-pub charges-full : (sizes table : List ℕ) → AreCharges sizes table →
+pub charges-full : (sizes table : List ℕ) → AreFirstCharges sizes table →
     length table ≡ largest sizes + 1 → (load : ℕ) → get_or table load 0 ≡ loss_charge sizes load
 charges-full sizes table charges full load = elim (cases_lt load (length table)) [
   | inl l ↦ charges.each load l

@@ -1,6 +1,6 @@
-ghost use Rattle.std.specs.Prelude.{◌≡◌, ◌+◌, ◌<◌, ◌↔◌, ℕ, IfOk, IfSome, IsNone, length};
-ghost use Rattle.std.specs.Prelude.{slice_index};
-ghost use Rattle.mill_model.specs.Instance.{largest, loss_charge, size_for};
+ghost use Rattle.std.specs.Prelude.{◌≡◌, ◌<◌, ◌↔◌, IfOk, IfSome, IsNone};
+ghost use Rattle.mill_model.specs.Instance.{largest, size_for};
+ghost use Rattle.loss_table.specs.Charges.{AreCharges};
 ghost use Rattle.loss_table.specs.LeastSize.{IsLeastSize};
 
 use mill_model::{Charges, Instance, OutOfMemory};
@@ -9,9 +9,7 @@ use std::alloc::Global;
 /// What each load up to the largest size is charged: the least size that holds it, minus the
 /// load. No load is charged nothing.
 pub fn loss_charges(alloc: Global, instance: &Instance) -> Result<Charges, OutOfMemory>
-    ensures reach { IfOk result (λ charges. length charges ≡ largest instance.now.sizes + 1) }
-    ensures each { IfOk result (λ charges. (load : ℕ) →
-        slice_index charges load ≡ loss_charge instance.now.sizes load) }
+    ensures { IfOk result (AreCharges instance.now) }
 {
     let mut table = Vec::with_capacity(alloc, instance.largest() as usize + 1)?;
     table.push(0)?;

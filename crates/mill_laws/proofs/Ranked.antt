@@ -3,7 +3,7 @@
 -- another, and wherever it goes in, each slab has the same load and the same colours.
 use Rattle.std.proofs.Common.{ℕ, zero, suc, ◌+◌, ◌<◌, ◌≡◌, eqb, leb, ltb, Bool, true, false, cond}
 use Rattle.std.proofs.Common.{◌&&◌, ◌||◌, List, [], ◌∷◌, map, length, drop, get_or, refl, sym, ap}
-use Rattle.std.proofs.Common.{ap₂, ◌∙◌, arith, inl, inr, eq-eqb, eqb-true, lt-ltb, le_antisymm}
+use Rattle.std.proofs.Common.{ap₂, ◌∙◌, arith, inl, inr, eq-eqb, eqb-true, lt-ltb}
 use Rattle.std.proofs.Math.Seq.{drop-cons}
 use Rattle.std.proofs.lemmas.Bool.Decides.{nat_tests}
 use Rattle.std.proofs.lemmas.List.{length-map}
@@ -16,7 +16,7 @@ use Rattle.mill_model.specs.Rank.{plan_in_rank}
 use Rattle.mill_model.specs.declared.order.Order.{Order}
 use Rattle.mill_laws.proofs.Lists.{and-left, and-right, total-cong, each_below-at, all-map}
 use Rattle.mill_laws.proofs.Lists.{each_below-from}
-use Rattle.mill_laws.proofs.Different.{either, different-mono}
+use Rattle.mill_laws.proofs.Different.{either, different-same}
 use Rattle.mill_laws.proofs.Mated.{colours_of}
 
 pub put-length : (p : Placed) (placed : List Placed) →
@@ -140,8 +140,7 @@ module _ (orders : List Order) (plan : List ℕ) (each : numbers_each plan order
       let filed = colours_of (slab s plan orders) in
       let same : (c : ℕ) → holds c ranked ≡ holds c filed =
       λ c. rank-colour s plan c 0 orders (omega (arith, long)) in
-      le_antisymm (different-mono ranked filed (λ c h. rw (← same c) h))
-      (different-mono filed ranked (λ c h. rw (same c) h))
+      different-same ranked filed same
 
   pub same-legal : (mill : Mill) (s : ℕ) →
       legal mill (slab s (plan_in_rank orders plan) (ranked_orders orders))

@@ -13,7 +13,8 @@ ghost use Rattle.mill_model.specs.Size.{size, thrifty_size, enough};
 ghost use Rattle.mill_model.specs.declared.closing.Closing.TheVariants.{Priced, Dominated};
 ghost use Rattle.mill_laws.specs.Examples.{one_colour, three_ranked, three_task, seven_lines};
 ghost use Rattle.mill_laws.specs.Examples.{full_group, last_order, four_task, ten_lines};
-ghost use Rattle.mill_laws.specs.Examples.{class_task, two_task, worth_at, swept_at, same_key, balances};
+ghost use Rattle.mill_laws.specs.Examples.{class_task, two_task, worth_at, swept_at, same_key};
+ghost use Rattle.mill_laws.specs.Examples.{balances};
 
 /// The orders (1, 1), (1, 2) and (2, 3) in rank, by their places, and the children of two paths.
 pub fn rank_and_children()

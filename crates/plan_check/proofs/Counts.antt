@@ -7,8 +7,7 @@ use Rattle.std.specs.Prelude.{All}
 use Rattle.std.proofs.lemmas.List.{length-set, get_or_default}
 use Rattle.mill_model.specs.Slab.{colours}
 use Rattle.mill_model.specs.declared.order.Order.{Order}
-use Rattle.mill_model.proofs.Different.{either}
-use Rattle.slab_rules.proofs.Joined.{different-same}
+use Rattle.mill_laws.proofs.Different.{either, different-same}
 use Rattle.plan_check.specs.Tallies.{colours_on, HasColoursOnce}
 
 -- one more where a pair is a slab's

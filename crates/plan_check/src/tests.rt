@@ -81,33 +81,49 @@ fn charges_up_to(alloc: Global, largest: u32) -> Result<Charges, OutOfMemory>
     Ok(Charges::from_list(table))
 }
 
-// One of nine orders.
+// One of nine orders, of which three weigh more than the largest size.
 fn order_of(kind: u32) -> Order
     ensures { IsOrder result }
 {
+    let weight = match kind % 3 {
+        0 => 1,
+        1 => 4,
+        _ => 6,
+    };
     Order {
-        weight: 1 + kind % 3 * 2,
+        weight,
         colour: 1 + (kind / 3 % 3) as u16,
     }
 }
 
-// Three of the orders, on sizes up to 5.
-fn instance_of(alloc: Global, kinds: u32, p: u8) -> Result<Instance, OutOfMemory>
+// So many of the orders, on sizes up to 5.
+fn instance_of(alloc: Global, count: u16, kinds: u32, p: u8) -> Result<Instance, OutOfMemory>
+    requires few { count ≤ 3 }
     requires low { 1 ≤ p }
     requires high { p ≤ 8 }
-    ensures { IfOk result (λ instance. length instance.orders ≡ 3) }
+    ensures { IfOk result (λ instance. length instance.orders ≡ count) }
 {
-    let orders = vec![in alloc; order_of(kinds), order_of(kinds / 9), order_of(kinds / 81)]?;
+    let mut orders = Vec::new(alloc);
+    let mut kind = kinds;
+    for _ in 0..count {
+        orders.push(order_of(kind))?;
+        kind /= 9;
+    }
     Ok(Instance::new(vec![in alloc; 2, 5]?, 0, orders, p))
 }
 
-// A slab below 3 for each of three orders.
-fn plan_of(alloc: Global, numbers: u16) -> Result<Plan, OutOfMemory>
-    ensures count { IfOk result (λ plan. length plan ≡ 3) }
-    ensures below { IfOk result (λ plan. list_all (λ s. ltb s 3) plan ≡ true) }
+// A slab for each of so many orders.
+fn plan_of(alloc: Global, count: u16, numbers: u16) -> Result<Plan, OutOfMemory>
+    ensures count { IfOk result (λ plan. length plan ≡ count) }
+    ensures below { IfOk result (λ plan. list_all (λ s. ltb s count) plan ≡ true) }
 {
-    let list = vec![in alloc; numbers % 3, numbers / 3 % 3, numbers / 9 % 3]?;
-    Ok(Plan::from_list(list))
+    let mut slabs = Vec::new(alloc);
+    let mut rest = numbers;
+    for _ in 0..count {
+        slabs.push(rest % count)?;
+        rest /= count;
+    }
+    Ok(Plan::from_list(slabs))
 }
 
 // What a plan is found to be, where each slab is gathered in a walk of its own.
@@ -136,17 +152,45 @@ fn reference(alloc: Global, instance: &Instance, plan: &Plan) -> Result<Verdict,
     Ok(Verdict::Legal { loss })
 }
 
+// The first plan of an instance with so many orders that is found to be something else.
+fn first_misjudged(
+    alloc: Global,
+    instance: &Instance,
+    count: u16,
+    plans: u16,
+) -> Result<Option<u16>, OutOfMemory>
+    requires { length instance.now.orders ≡ count }
+{
+    let charges = charges_up_to(alloc, instance.largest())?;
+    for numbers in 0..plans {
+        let plan = plan_of(alloc, count, numbers)?;
+        let found = judge(alloc, instance, &charges, &plan)?;
+        if found != reference(alloc, instance, &plan)? {
+            return Ok(Some(numbers));
+        }
+    }
+    Ok(None)
+}
+
+// How many lists of so many orders there are, and how many plans of each.
+fn lists_and_plans(count: u16) -> (u32, u16) {
+    match count {
+        0 => (1, 1),
+        1 => (9, 1),
+        2 => (81, 4),
+        _ => (729, 27),
+    }
+}
+
 #[test]
 fn every_plan_of_small_instances(rt: HostRuntime) -> Result<(), Fail> {
     let alloc = rt.alloc();
-    for p in 1..4 {
-        for kinds in 0..729 {
-            let instance = instance_of(alloc, kinds, p)?;
-            let charges = charges_up_to(alloc, instance.largest())?;
-            for numbers in 0..27 {
-                let plan = plan_of(alloc, numbers)?;
-                let found = judge(alloc, &instance, &charges, &plan)?;
-                assert_eq!(rt; found, reference(alloc, &instance, &plan)?);
+    for count in 0..4 {
+        let (lists, plans) = lists_and_plans(count);
+        for kinds in 0..lists {
+            for p in 1..4 {
+                let instance = instance_of(alloc, count, kinds, p)?;
+                assert_eq!(rt; first_misjudged(alloc, &instance, count, plans)?, None);
             }
         }
     }

@@ -62,7 +62,8 @@ pub sets-length : (n : ℕ) (m : List Bool) → Among m (sets n) → length m �
 sets-length zero m (inl e) = rw e refl
 sets-length zero m (inr h) = absurd h
 sets-length (suc n) m h =
-    elim (Among-unappend m (map (λ set. false ∷ set) (sets n)) (map (λ set. true ∷ set) (sets n)) h) [
+    elim (Among-unappend m (map (λ set. false ∷ set) (sets n))
+    (map (λ set. true ∷ set) (sets n)) h) [
       | inl a ↦ (let r = Among-unmap (λ set. false ∷ set) m (sets n) a in
           rw r.2 (ap suc (sets-length n r.0 r.1)))
       | inr a ↦ (let r = Among-unmap (λ set. true ∷ set) m (sets n) a in

@@ -2,18 +2,17 @@
 use Rattle.std.proofs.Common.{ℕ, ◌+◌, ◌≤◌, ◌≡◌, IsTrue, ◌↔◌, ◌==◌, Bool, true, false, ◌||◌, List}
 use Rattle.std.proofs.Common.{[], ◌∷◌, ◌++◌, map, length, eqb, leb, refl, sym, ap, ap₂, ◌∙◌, arith}
 use Rattle.std.proofs.Common.{inl, inr, eq-eqb, eqb-true, ne_eqb, false-eqb, le-leb, leb-true}
-use Rattle.std.proofs.Common.{le_antisymm}
 use Rattle.std.specs.List.{list_any}
 use Rattle.std.proofs.lemmas.List.{map-append, length-append}
-use Rattle.mill_model.specs.Sets.{holds, different}
+use Rattle.mill_model.specs.Sets.{holds}
 use Rattle.mill_model.specs.Slab.{load, colours, legal}
 use Rattle.mill_model.specs.declared.order.Order.{Order}
-use Rattle.mill_model.proofs.Different.{either, different-mono, holds-append}
+use Rattle.mill_model.proofs.Different.{either, holds-append}
 use Rattle.mill_model.proofs.FirstPlaces.{different-push}
 use Rattle.mill_laws.proofs.Lists.{and-left, and-right}
-use Rattle.mill_laws.proofs.Different.{load-append}
-use Rattle.slab_rules.specs.Open.{Open, with_colour, joined, IsWithinBounds, HasNoRepeats, IsOpen}
-use Rattle.slab_rules.specs.Open.{IsOf}
+use Rattle.mill_laws.proofs.Different.{different-same, load-append}
+use Rattle.slab_rules.specs.OpenSlab.{OpenSlab, with_colour, joined, IsWithinBounds, HasNoRepeats}
+use Rattle.slab_rules.specs.OpenSlab.{IsOpenSlab, Carries}
 
 -- a test of sameness either way round
 same-turned : (a b : ℕ) → eqb a b ≡ eqb b a
@@ -26,13 +25,6 @@ same-turned a b = elim (either (eqb b a)) [
 pub any-holds : (c : ℕ) (xs : List ℕ) → list_any (λ x. x == c) xs ≡ holds c xs
 any-holds c [] = refl
 any-holds c (x ∷ xs) = ap₂ (λ a b. a || b) (same-turned x c) (any-holds c xs)
-
--- lists with the same numbers have as many different ones
-pub different-same : (xs ys : List ℕ) → ((x : ℕ) → holds x xs ≡ holds x ys) →
-    different xs ≡ different ys
-different-same xs ys h =
-    le_antisymm (different-mono xs ys (λ x k. sym (h x) ∙ k))
-    (different-mono ys xs (λ x k. h x ∙ k))
 
 -- what colours with one more hold
 holds-with_colour : (x : ℕ) (cs : List ℕ) (c : ℕ) →
@@ -59,24 +51,24 @@ once-with_colour cs c once = elim (either (holds c cs)) [
   | inr new ↦ rw (new, different-push, length-append, new) (omega (arith, once))
 ]
 
--- an order that joins is one more of the orders
-pub joined-of : (slab : Open) (orders : List Order) (order : Order) → IsOf orders slab →
-    IsOf (orders ++ order ∷ []) (joined slab order)
-joined-of slab orders order is = record {
+-- a slab that an order joins carries one order more
+pub Carries-joined : (slab : OpenSlab) (orders : List Order) (order : Order) → Carries slab orders →
+    Carries (joined slab order) (orders ++ order ∷ [])
+Carries-joined slab orders order carries = record {
   weight = (let more : load (orders ++ order ∷ []) ≡ load orders + (order.weight + 0) =
       load-append orders (order ∷ []) in
-      omega (arith, more, is.weight));
+      omega (arith, more, carries.weight));
   each = λ c. holds-with_colour c slab.colours order.colour
       ∙ holds-append c slab.colours (order.colour ∷ [])
-      ∙ ap (λ b. b || holds c (order.colour ∷ [])) (is.each c)
+      ∙ ap (λ b. b || holds c (order.colour ∷ [])) (carries.each c)
       ∙ sym (holds-append c (map (λ o. o.colour) orders) (order.colour ∷ []))
       ∙ ap (holds c) (sym (map-append (λ o. o.colour) orders (order ∷ [])));
 }
 
 -- a slab keeps what it keeps where it stays within its bounds
-pub joined-open : (slab : Open) (order : Order) → IsOpen slab → IsWithinBounds (joined slab order) →
-    IsOpen (joined slab order)
-joined-open slab order before bounds = record {
+pub IsOpenSlab-joined : (slab : OpenSlab) (order : Order) → IsOpenSlab slab →
+    IsWithinBounds (joined slab order) → IsOpenSlab (joined slab order)
+IsOpenSlab-joined slab order before bounds = record {
   bounds = bounds;
   once = once-with_colour slab.colours order.colour before.once;
   size_limit = before.size_limit;
@@ -85,19 +77,19 @@ joined-open slab order before bounds = record {
 }
 
 -- a slab has as many colours as its orders
-pub count-of : (slab : Open) (orders : List Order) → HasNoRepeats slab.colours → IsOf orders slab →
-    length slab.colours ≡ colours orders
-count-of slab orders once is =
-    sym once ∙ different-same slab.colours (map (λ o. o.colour) orders) is.each
+pub count-of : (slab : OpenSlab) (orders : List Order) → HasNoRepeats slab.colours →
+    Carries slab orders → length slab.colours ≡ colours orders
+count-of slab orders once carries =
+    sym once ∙ different-same slab.colours (map (λ o. o.colour) orders) carries.each
 
 -- its bounds are those of its orders
-pub bounds-legal : (slab : Open) (orders : List Order) → HasNoRepeats slab.colours →
-    IsOf orders slab → IsWithinBounds slab ↔ (legal slab.mill orders ≡ true)
-bounds-legal slab orders once is =
-    let count = count-of slab orders once is in (
+pub bounds-legal : (slab : OpenSlab) (orders : List Order) → HasNoRepeats slab.colours →
+    Carries slab orders → IsWithinBounds slab ↔ (legal slab.mill orders ≡ true)
+bounds-legal slab orders once carries =
+    let count = count-of slab orders once carries in (
       λ bounds.
           let light : leb (load orders) slab.mill.largest ≡ true =
-          le-leb _ _ (omega (arith, is.weight, bounds.light)) in
+          le-leb _ _ (omega (arith, carries.weight, bounds.light)) in
           let few : leb (colours orders) slab.mill.most_colours ≡ true =
           le-leb _ _ (omega (arith, count, bounds.few)) in
           rw (light, few),
@@ -107,16 +99,17 @@ bounds-legal slab orders once is =
           let few : colours orders ≤ slab.mill.most_colours =
           leb-true _ _ (and-right (leb (load orders) slab.mill.largest) _ yes) in
           record {
-            light = omega (arith, is.weight, light);
+            light = omega (arith, carries.weight, light);
             few = omega (arith, count, few);
           },
     )
 
 -- what a test of the bounds says of the orders
-pub fits-legal : (answer : Bool) (slab : Open) (order : Order) → IsOpen slab →
-    IsTrue answer ↔ IsWithinBounds (joined slab order) → (orders : List Order) → IsOf orders slab →
-    IsTrue answer ↔ (legal slab.mill (orders ++ order ∷ []) ≡ true)
-fits-legal answer slab order before test orders is =
+pub fits-legal : (answer : Bool) (slab : OpenSlab) (order : Order) → IsOpenSlab slab →
+    IsTrue answer ↔ IsWithinBounds (joined slab order) → (orders : List Order) →
+    Carries slab orders → IsTrue answer ↔ (legal slab.mill (orders ++ order ∷ []) ≡ true)
+fits-legal answer slab order before test orders carries =
     let law = bounds-legal (joined slab order) (orders ++ order ∷ [])
-    (once-with_colour slab.colours order.colour before.once) (joined-of slab orders order is) in
+    (once-with_colour slab.colours order.colour before.once)
+    (Carries-joined slab orders order carries) in
     (λ fits. law.0 (test.0 fits), λ legal. test.1 (law.1 legal))

@@ -2,7 +2,7 @@ ghost use Rattle.std.specs.Prelude.{◌≡◌, ◌≤◌, ◌↔◌, ◌++◌, �
 ghost use Rattle.mill_model.specs.Sets.{holds};
 ghost use Rattle.mill_model.specs.Slab.{legal};
 ghost use Rattle.mill_model.specs.declared.order.Order.{Order};
-ghost use Rattle.slab_rules.specs.Open.{empty_on, joined, IsWithinBounds, IsOpen, IsOf};
+ghost use Rattle.slab_rules.specs.OpenSlab.{empty_on, joined, IsWithinBounds, IsOpenSlab, Carries};
 
 use mill_model::Order;
 use smallvec::SmallVec;
@@ -22,9 +22,9 @@ pub struct OpenSlab {
 
 impl Model for OpenSlab {
     ghost use Rattle.std.specs.Prelude.{◌≡◌};
-    ghost use Rattle.slab_rules.specs.Open.{Open, IsOpen};
+    ghost use Rattle.slab_rules.specs.OpenSlab.{OpenSlab, IsOpenSlab};
 
-    ghost Value = { Open };
+    ghost Value = { OpenSlab };
 
     ghost view = { λ s. record {
       load = s.load;
@@ -32,7 +32,7 @@ impl Model for OpenSlab {
       mill = record { largest = s.largest; most_colours = s.p };
     } };
 
-    ghost invariant = { λ s. (s.colours.capacity ≡ 8) × IsOpen (record {
+    ghost invariant = { λ s. (s.colours.capacity ≡ 8) × IsOpenSlab (record {
       load = s.load;
       colours = s.colours.items;
       mill = record { largest = s.largest; most_colours = s.p };
@@ -47,7 +47,7 @@ impl OpenSlab {
         requires some_colour { 1 ≤ p }
         requires colour_limit { p ≤ 8 }
         ensures is { result ≡ empty_on (record { largest = largest; most_colours = p }) }
-        ensures carries { IsOf [] result }
+        ensures carries { Carries result [] }
     {
         OpenSlab {
             load: 0,
@@ -60,7 +60,7 @@ impl OpenSlab {
     /// The sum of the weights of its orders.
     pub fn load(&self) -> u32
         ensures is { result ≡ self.now.load }
-        ensures kept { IsOpen self.now }
+        ensures kept { IsOpenSlab self.now }
     {
         self.load
     }
@@ -68,7 +68,7 @@ impl OpenSlab {
     /// The colours of its orders, each once, as they came.
     pub fn colours(&self) -> &[u16]
         ensures is { result.now ≡ self.now.colours }
-        ensures kept { IsOpen self.now }
+        ensures kept { IsOpenSlab self.now }
     {
         self.colours.as_slice()
     }
@@ -76,7 +76,7 @@ impl OpenSlab {
     /// Whether the slab stays legal with one more order.
     pub fn fits(&self, order: Order) -> bool
         ensures bounds { IsTrue result ↔ IsWithinBounds (joined self.now order) }
-        ensures legal { (orders : List Order) → IsOf orders self.now →
+        ensures legal { (orders : List Order) → Carries self.now orders →
             IsTrue result ↔ (legal self.now.mill (orders ++ order ∷ []) ≡ true) }
     {
         order.weight <= self.largest - self.load
@@ -87,8 +87,8 @@ impl OpenSlab {
     pub fn join(&mut self, order: Order)
         requires { IsWithinBounds (joined self.old order) }
         ensures is { self.new ≡ joined self.old order }
-        ensures carries { (orders : List Order) → IsOf orders self.old →
-            IsOf (orders ++ order ∷ []) self.new }
+        ensures carries { (orders : List Order) → Carries self.old orders →
+            Carries self.new (orders ++ order ∷ []) }
     {
         if !self.has(order.colour) {
             self.colours.push_reserved(order.colour);

@@ -19,9 +19,9 @@ use Rattle.mill_laws.proofs.Paths.{tree-bound}
 use Rattle.mill_laws.proofs.TreeLaws.{each-leaf-is-a-plan}
 use Rattle.order_symmetry.specs.Ranked.{IsPlanOf, orders_of}
 use Rattle.order_symmetry.proofs.Limits.{few}
-use Rattle.slab_rules.specs.Open.{Open}
+use Rattle.slab_rules.specs.OpenSlab.{OpenSlab}
 use Rattle.split_tree.specs.Node.{Node, IsNode, AreGroups, group_of, least_number}
-use Rattle.split_tree.proofs.Pushes.{slab-new}
+use Rattle.mill_laws.proofs.Duality.{slab-new}
 
 module _ (node : Node) (is : IsNode node) where
   pub path-long : length node.path ≤ length node.ranked.placed
@@ -58,7 +58,7 @@ iff-same false true h = h.1 refl
 iff-same false false h = refl
 
 -- a new group stays legal with an order where the order is legal alone
-pub fits-new : (node : Node) (groups : List Open) → AreGroups node groups → (g : ℕ) →
+pub fits-new : (node : Node) (groups : List OpenSlab) → AreGroups node groups → (g : ℕ) →
     length groups ≤ g → (order : Order) (mill : Mill) → mill ≡ node.ranked.mill → (answer : Bool) →
     IsTrue answer ↔ (legal mill (order ∷ []) ≡ true) →
     answer ≡ legal node.ranked.mill (group_of node g ++ order ∷ [])

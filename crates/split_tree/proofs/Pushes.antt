@@ -18,21 +18,6 @@ drop-get [] k x e = absurd (cc)
 drop-get (y ∷ xs) zero x e = let same : y ≡ x = cc in ap (λ z. z ∷ xs) same
 drop-get (y ∷ xs) (suc k) x e = drop-get xs k x e
 
--- a number that is not below the next new one is not in the path, and its group is empty
-holds-next : (s : ℕ) (path : List ℕ) → holds s path ≡ true → s < next_new path
-holds-next s [] h = absurd (cc)
-holds-next s (t ∷ path) h = elim (or-cases (eqb s t) (holds s path) h) [
-  | inl e ↦ omega (arith, eqb-true s t e)
-  | inr e ↦ omega (arith, holds-next s path e)
-]
-
-pub slab-new : (s : ℕ) (path : List ℕ) (orders : List Order) → next_new path ≤ s →
-    slab s path orders ≡ []
-slab-new s path orders l = slab-unused s path orders (elim (either (holds s path)) [
-  | inl h ↦ absurd (omega (arith, holds-next s path h))
-  | inr h ↦ h
-])
-
 module _ (path : List ℕ) (orders : List Order) (g : ℕ) (order : Order)
     (next : slice_get orders (length path) ≡ Some order) where
   pub slab-same : slab g (path ++ g ∷ []) orders ≡ slab g path orders ++ order ∷ []

@@ -14,12 +14,15 @@ use Rattle.mill_laws.proofs.Different.{either}
 use Rattle.mill_laws.proofs.Forms.{next_new-push}
 use Rattle.mill_laws.proofs.Paths.{goes-first, goes-later, may-next, may-fits}
 use Rattle.order_symmetry.specs.Ranked.{RankedOrders, orders_of}
-use Rattle.slab_rules.specs.Open.{Open, empty_on, joined, IsWithinBounds, IsOpen, IsOf}
-use Rattle.slab_rules.proofs.Joined.{joined-of, joined-open, once-with_colour, bounds-legal}
+use Rattle.slab_rules.specs.OpenSlab.{OpenSlab, empty_on, joined, IsWithinBounds, IsOpenSlab}
+use Rattle.slab_rules.specs.OpenSlab.{Carries}
+use Rattle.slab_rules.proofs.Joined.{Carries-joined, IsOpenSlab-joined, once-with_colour}
+use Rattle.slab_rules.proofs.Joined.{bounds-legal}
 use Rattle.split_tree.specs.Node.{Node, IsGroup, AreGroups, group_of}
 use Rattle.split_tree.specs.Groups.{slab_at, with_order}
 use Rattle.split_tree.proofs.Joins.{at-old, at-joined, length-with_order, slab_at-get, slab_at-new}
-use Rattle.split_tree.proofs.Pushes.{slab-new, slab-same, slab-other}
+use Rattle.mill_laws.proofs.Duality.{slab-new}
+use Rattle.split_tree.proofs.Pushes.{slab-same, slab-other}
 
 -- what goes on, goes on behind its front
 goes-behind : (mill : Mill) (ranked : List Order) (path front back : List ℕ) →
@@ -37,9 +40,9 @@ take-drop-one (g ∷ path) zero l = refl
 take-drop-one (g ∷ path) (suc i) l = ap (λ xs. g ∷ xs) (take-drop-one path i (omega arith))
 
 -- no order is on the empty slab, and it is within its bounds
-pub empty-open : (mill : Mill) → mill.largest ≤ 20000 → 1 ≤ mill.most_colours →
-    mill.most_colours ≤ 8 → IsOpen (empty_on mill)
-empty-open mill a b c = record {
+pub IsOpenSlab-empty : (mill : Mill) → mill.largest ≤ 20000 → 1 ≤ mill.most_colours →
+    mill.most_colours ≤ 8 → IsOpenSlab (empty_on mill)
+IsOpenSlab-empty mill a b c = record {
   bounds = record { light = omega arith; few = omega arith };
   once = refl;
   size_limit = a;
@@ -47,11 +50,11 @@ empty-open mill a b c = record {
   colour_limit = c;
 }
 
-pub empty-of : (mill : Mill) → IsOf [] (empty_on mill)
-empty-of mill = record { weight = refl; each = λ c. refl }
+pub Carries-empty : (mill : Mill) → Carries (empty_on mill) []
+Carries-empty mill = record { weight = refl; each = λ c. refl }
 
 -- the slab that new groups begin as
-pub empty-is : (mill : Mill) (largest p : ℕ) (empty : Open) → largest ≡ mill.largest →
+pub empty-is : (mill : Mill) (largest p : ℕ) (empty : OpenSlab) → largest ≡ mill.largest →
     p ≡ mill.most_colours →
     empty ≡ empty_on (record { largest = largest; most_colours = p }) → empty ≡ empty_on mill
 empty-is mill largest p empty l c e =
@@ -92,12 +95,12 @@ module _ (ranked : RankedOrders) (path : List ℕ) (i : ℕ) (order : Order)
   kept s e = ap (λ xs. slab s xs (orders_of ranked)) more
       ∙ slab-other (take i path) (orders_of ranked) g order next s e
 
-  pub walk-number : (groups : List Open) → AreGroups before groups → g ≤ length groups
+  pub walk-number : (groups : List OpenSlab) → AreGroups before groups → g ≤ length groups
   walk-number groups is =
       omega (arith, may-next ranked.mill (orders_of ranked) (take i path) g goes, is.count)
 
-  module _ (groups : List Open) (is : AreGroups before groups) (empty : Open)
-      (start : empty ≡ empty_on ranked.mill) (open_slab : IsOpen empty) where
+  module _ (groups : List OpenSlab) (is : AreGroups before groups) (empty : OpenSlab)
+      (start : empty ≡ empty_on ranked.mill) (open_slab : IsOpenSlab empty) where
     -- what the order joins
     target : IsGroup before g (slab_at empty groups g)
     target = elim (either (leb (suc g) (length groups))) [
@@ -106,14 +109,14 @@ module _ (ranked : RankedOrders) (path : List ℕ) (i : ℕ) (order : Order)
           rw (slab_at-new empty groups g l) (record {
             carries =
                 rw (start, slab-new g (take i path) (orders_of ranked) (omega (arith, is.count)))
-                (empty-of ranked.mill);
+                (Carries-empty ranked.mill);
             mill = rw start refl;
             open_slab = open_slab;
           }))
     ]
 
-    joins : IsOf (group_of before g ++ order ∷ []) (joined (slab_at empty groups g) order)
-    joins = joined-of (slab_at empty groups g) (group_of before g) order target.carries
+    joins : Carries (joined (slab_at empty groups g) order) (group_of before g ++ order ∷ [])
+    joins = Carries-joined (slab_at empty groups g) (group_of before g) order target.carries
 
     stays : legal ranked.mill (group_of before g ++ order ∷ []) ≡ true
     stays =
@@ -127,15 +130,16 @@ module _ (ranked : RankedOrders) (path : List ℕ) (i : ℕ) (order : Order)
         (once-with_colour old.colours order.colour target.open_slab.once) joins).1
         (rw target.mill stays)
 
-    joined-group : (taken : Open) → taken ≡ joined (slab_at empty groups g) order →
+    joined-group : (taken : OpenSlab) → taken ≡ joined (slab_at empty groups g) order →
         IsGroup after g taken
     joined-group taken e = record {
       carries = rw (e, grown) joins;
       mill = rw e target.mill;
-      open_slab = rw e (joined-open (slab_at empty groups g) order target.open_slab walk-fits);
+      open_slab =
+          rw e (IsOpenSlab-joined (slab_at empty groups g) order target.open_slab walk-fits);
     }
 
-    old-group : (s : ℕ) (old : Open) → eqb s g ≡ false → slice_get groups s ≡ Some old →
+    old-group : (s : ℕ) (old : OpenSlab) → eqb s g ≡ false → slice_get groups s ≡ Some old →
         IsGroup after s old
     old-group s old h e =
         let was : IsGroup before s old = is.each s old e in

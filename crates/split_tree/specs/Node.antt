@@ -7,7 +7,7 @@ use Rattle.mill_model.specs.Rank.{starts_class_in}
 use Rattle.mill_model.specs.Tree.{next_new, last_number, in_tree}
 use Rattle.mill_model.specs.declared.order.Order.{Order}
 use Rattle.order_symmetry.specs.Ranked.{RankedOrders, IsRanked, orders_of}
-use Rattle.slab_rules.specs.Open.{Open, IsOpen, IsOf}
+use Rattle.slab_rules.specs.OpenSlab.{OpenSlab, IsOpenSlab, Carries}
 
 -- ranked orders, and a path of their tree
 pub record Node : Type 0 where
@@ -28,15 +28,15 @@ abbrev pub groups_loss : (ℕ → ℕ) → Node → ℕ
 groups_loss charge node = total (next_new node.path) (λ g. charge (load (group_of node g)))
 
 -- an open slab that carries the orders of a group of a node, of the node's mill
-pub record IsGroup (node : Node) (g : ℕ) (group : Open) : Type 0 where
-  pub carries : IsOf (group_of node g) group
+pub record IsGroup (node : Node) (g : ℕ) (group : OpenSlab) : Type 0 where
+  pub carries : Carries group (group_of node g)
   pub mill : group.mill ≡ node.ranked.mill
-  pub open_slab : IsOpen group
+  pub open_slab : IsOpenSlab group
 
 -- open slabs that are the groups of a node, by rising number
-pub record AreGroups (node : Node) (groups : List Open) : Type 0 where
+pub record AreGroups (node : Node) (groups : List OpenSlab) : Type 0 where
   pub count : length groups ≡ next_new node.path
-  pub each : (g : ℕ) (group : Open) → slice_get groups g ≡ Some group → IsGroup node g group
+  pub each : (g : ℕ) (group : OpenSlab) → slice_get groups g ≡ Some group → IsGroup node g group
 
 -- the least number that a path may go on with: within a class, its last number
 abbrev pub least_number : Node → ℕ

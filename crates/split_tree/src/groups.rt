@@ -1,5 +1,5 @@
 ghost use Rattle.std.specs.Prelude.{◌≡◌, ◌≤◌, length, IfOk};
-ghost use Rattle.slab_rules.specs.Open.{IsWithinBounds, joined};
+ghost use Rattle.slab_rules.specs.OpenSlab.{IsWithinBounds, joined};
 ghost use Rattle.split_tree.specs.Groups.{slab_at, with_order};
 
 use mill_model::{Order, OutOfMemory};

@@ -51,10 +51,10 @@ full c =
     full-length sizes c.loop-size.table.items (rw end at c.loop-size.invariant.part)
     c.sizes-size-items.ensures.kept.within.some_size c.loop-size.invariant.most
 
-pub returns-clause-reach : goal.returns-clause-reach
-returns-clause-reach c = ap length c.from_list.ensures ∙ full c
-
-pub returns-clause-each : goal.returns-clause-each
-returns-clause-each c = λ load. ap (λ table. get_or table load 0) c.from_list.ensures
-    ∙ charges-full c.args.instance.now.sizes c.loop-size.table.items c.loop-size.invariant.charges
-    (full c) load
+pub returns : goal.returns
+returns c = record {
+  reach = ap length c.from_list.ensures ∙ full c;
+  each = λ load. ap (λ table. get_or table load 0) c.from_list.ensures
+      ∙ charges-full c.args.instance.now.sizes c.loop-size.table.items c.loop-size.invariant.charges
+      (full c) load;
+}

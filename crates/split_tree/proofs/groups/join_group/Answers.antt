@@ -1,5 +1,5 @@
 use Rattle.std.proofs.Common.{◌<◌, ◌≤◌, length, sym, ◌∙◌, subst, ltb-true, arith}
-use Rattle.slab_rules.specs.Open.{Open, joined, IsWithinBounds}
+use Rattle.slab_rules.specs.OpenSlab.{OpenSlab, joined, IsWithinBounds}
 use Rattle.split_tree.proofs.Joins.{slab_at-old, slab_at-new, with_order-old, with_order-new}
 use Rattle.split_tree.proofs.groups.join_group.Goals as goal
 
@@ -7,8 +7,9 @@ pub join-requires : goal.join-requires
 join-requires c =
     let item = c.in-Some.ensures.item in
     let l : c.args.group < length c.args.groups.now.items = ltb-true _ _ (sym item.0) in
-    subst (λ (slab : Open). IsWithinBounds (joined slab c.args.order)) (slab_at-old c.args.empty.now
-    c.args.groups.now.items c.args.group c.in-Some.slab.now l item.1) c.requires.fits
+    subst (λ (slab : OpenSlab). IsWithinBounds (joined slab c.args.order))
+    (slab_at-old c.args.empty.now c.args.groups.now.items c.args.group c.in-Some.slab.now l item.1)
+    c.requires.fits
 
 pub returns-in-Some : goal.returns-in-Some
 returns-in-Some c =
@@ -20,8 +21,9 @@ returns-in-Some c =
 pub join-requires-2 : goal.join-requires-2
 join-requires-2 c =
     let l : length c.args.groups.now.items ≤ c.args.group = c.in_default.ensures.item.3 in
-    subst (λ (slab : Open). IsWithinBounds (joined slab c.args.order)) (slab_at-new c.args.empty.now
-    c.args.groups.now.items c.args.group l ∙ sym c.copy-slab.ensures) c.requires.fits
+    subst (λ (slab : OpenSlab). IsWithinBounds (joined slab c.args.order))
+    (slab_at-new c.args.empty.now c.args.groups.now.items c.args.group l
+    ∙ sym c.copy-slab.ensures) c.requires.fits
 
 pub returns : goal.returns
 returns c =

@@ -1,7 +1,7 @@
 use Rattle.std.proofs.Common.{◌<◌, ◌≤◌, length, rules}
 use Rattle.mill_model.specs.declared.order.TheConstants.{MAX_ORDERS}
 use Rattle.split_tree.proofs.Nodes.{path-short}
-use Rattle.split_tree.proofs.Walk.{empty-is, empty-open, walk-number, walk-fits, walk-more}
+use Rattle.split_tree.proofs.Walk.{empty-is, IsOpenSlab-empty, walk-number, walk-fits, walk-more}
 use Rattle.split_tree.proofs.node.NodeState.of.Goals as goal
 
 pub overflow_cast-rank : goal.overflow_cast-rank
@@ -31,7 +31,8 @@ join_group-requires-clause-fits c =
     rw numbers
     (walk-fits c.args.ranked.now c.args.path.now c.loop-rank.rank c.order.result c.requires
     (rw numbers at c.loop-rank-test.true) c.order.ensures.is c.loop-rank.groups.items
-    c.loop-rank.invariant c.empty-empty.result start (rw start (empty-open c.args.ranked.now.mill
+    c.loop-rank.invariant c.empty-empty.result start
+    (rw start (IsOpenSlab-empty c.args.ranked.now.mill
     (rw c.largest.ensures.is at c.largest.ensures.high) (rw c.p.ensures.is at c.p.ensures.low)
     (rw c.p.ensures.is at c.p.ensures.high))))
 
@@ -43,6 +44,7 @@ loop-rank-preserved c =
     rw (c.in_ok-join_group.ensures, numbers)
     (walk-more c.args.ranked.now c.args.path.now c.loop-rank.rank c.order.result c.requires
     (rw numbers at c.loop-rank-test.true) c.order.ensures.is c.loop-rank.groups.items
-    c.loop-rank.invariant c.empty-empty.result start (rw start (empty-open c.args.ranked.now.mill
+    c.loop-rank.invariant c.empty-empty.result start
+    (rw start (IsOpenSlab-empty c.args.ranked.now.mill
     (rw c.largest.ensures.is at c.largest.ensures.high) (rw c.p.ensures.is at c.p.ensures.low)
     (rw c.p.ensures.is at c.p.ensures.high))))

@@ -1,6 +1,6 @@
 use Rattle.std.proofs.Common.{◌≡◌, ◌≤◌, length, ◌∷◌, ◌++◌, [], ap, ◌∙◌, subst}
 use Rattle.mill_model.specs.Slab.{legal}
-use Rattle.slab_rules.specs.Open.{Open}
+use Rattle.slab_rules.specs.OpenSlab.{OpenSlab}
 use Rattle.split_tree.specs.Node.{Node, group_of}
 use Rattle.split_tree.proofs.Nodes.{fits-new}
 use Rattle.split_tree.proofs.node.NodeState.takes.Goals as goal
@@ -8,7 +8,7 @@ use Rattle.split_tree.proofs.node.NodeState.takes.Goals as goal
 pub returns-in-None : goal.returns-in-None
 returns-in-None c =
     let mill : c.empty.result.mill ≡ c.self.inside.ranked.now.mill =
-    ap (λ (s : Open). s.mill) c.empty.ensures.is
+    ap (λ (s : OpenSlab). s.mill) c.empty.ensures.is
     ∙ (λ i. record { largest = c.largest.ensures.is i; most_colours = c.p.ensures.is i }) in
     let past : length c.self.inside.groups.items ≤ c.args.group =
     rw c.deref.ensures.value at c.in-None.ensures.lookup.3 in

@@ -1,19 +1,20 @@
 -- What may stand behind the lines with which an answer's text begins.
-use Rattle.std.proofs.Common.{ℕ, ◌+◌, ◌≡◌, ◌⊎◌, inl, inr, true, false, List}
-use Rattle.std.proofs.Common.{[], ◌∷◌, ◌++◌, map, length, take, None, codes, refl}
-use Rattle.std.proofs.Common.{subst, sym, ap, ◌∙◌, arith, append_assoc, length-append}
+use Rattle.std.proofs.Common.{ℕ, ◌+◌, ◌≡◌, inl, inr, List, [], ◌∷◌, ◌++◌, map, length, take, None}
+use Rattle.std.proofs.Common.{codes, refl, subst, sym, ap, ◌∙◌, arith, append_assoc, length-append}
 use Rattle.std.proofs.lemmas.List.{append-nil}
-use Rattle.line_text.specs.Lines.{is_blank, is_end, first_filled}
-use Rattle.line_text.specs.Words.{BeginsWith}
 use Rattle.answer_text.specs.declared.answer.Answer.{Answer}
 use Rattle.answer_text.specs.declared.answer.Answer.TheVariants.{Optimal, Feasible, Infeasible}
 use Rattle.answer_text.specs.declared.error.AnswerTextError.{AnswerTextError}
-use Rattle.answer_text.specs.declared.error.AnswerTextError.TheVariants.{BadLine, OutOfMemory}
+use Rattle.answer_text.specs.declared.error.AnswerTextError.TheVariants.{BadLine, NotRising}
+use Rattle.answer_text.specs.declared.error.AnswerTextError.TheVariants.{CountDiffers, OutOfMemory}
 use Rattle.answer_text.specs.Line.{Line, kind, loss, plan, spent, order, spell, IsWithin, AreWithin}
-use Rattle.answer_text.specs.Text.{lines_of, Fits, IsEnding, Spells, IsAnswerText}
-use Rattle.answer_text.specs.Judged.{Begins, NextIsWrong, IsBadLine, IsRefused}
-use Rattle.answer_text.specs.Reading.{Reading, LacksAll, Refuses, LacksEnd, HasMore, RefusesEnding}
-use Rattle.answer_text.proofs.Ending.{filled-at, each-blank, first-byte, ending-of, within-take}
+use Rattle.answer_text.specs.Text.{lines_of, refutation_of, IsEnding, Ends, Spells, IsAnswerText}
+use Rattle.answer_text.specs.Judged.{Begins, NextIsWrong, HasLog, IsBadWithoutLog, IsRefused}
+use Rattle.answer_text.specs.Reading.{Reading, LacksAll, Refuses, LacksEnd, HasMore, IsBadEnding}
+use Rattle.answer_text.specs.Reading.{RefusesEnding}
+use Rattle.answer_text.proofs.Ending.{filled-at, first-byte, within-take, MayFollow, ending-of}
+use Rattle.answer_text.proofs.Ending.{Never, never-more}
+use Rattle.answer_text.proofs.Fronts.{end-alone}
 
 -- some lines begin with one of these
 pub record Follows {X : Type 0} (line : X → Line) (orders : ℕ) (rest : List (List ℕ)) : Type 0 where
@@ -34,7 +35,7 @@ module _ {X : Type 0} (line : X → Line) (orders : ℕ) (front : List (List ℕ
   none-follows [] lacks = λ (answer : Answer) (text : IsAnswerText orders answer front).
       let same : front ≡ front ++ [] = sym (append-nil front) in
       let f : Follows line orders [] = awaits answer [] (subst (Spells answer) same text.spells)
-      (within-take orders (length front + 1) (lines_of answer) text.fits) in
+      (within-take orders (length front + 1) (lines_of answer) text.fits.numbers) in
       absurd (let z : [] ≡ spell (line f.thing) ∷ f.more = f.is in cc)
   none-follows (next ∷ rest) lacks = λ (begins : Begins orders (front ++ next ∷ [])).
       let same : (front ++ next ∷ []) ++ begins.more ≡ front ++ next ∷ begins.more =
@@ -51,82 +52,88 @@ module _ {X : Type 0} (line : X → Line) (orders : ℕ) (front : List (List ℕ
   -- a reader of one of those lines refuses the text where the next line is wrong
   pub refused-next : (old : Reading) (lines : List (List ℕ)) (error : AnswerTextError)
       → lines ≡ front ++ old.rest → old.orders ≡ orders → old.read ≡ length front
-      → Begins orders front → Refuses line old error → IsRefused orders lines error
-  refused-next old lines (BadLine number) parts same read begins refuses =
+      → Begins orders front
+      → (NextIsWrong orders front old.rest → ¬ (HasLog orders (front ++ old.rest)))
+      → Refuses line old error → IsRefused orders lines error
+  refused-next old lines (BadLine number) parts same read begins no_log refuses =
       let lacks : LacksAll line orders old.rest =
       subst (λ n. LacksAll line n old.rest) same refuses.1 in
-      record {
+      let wrong : NextIsWrong orders front old.rest = none-follows old.rest lacks in
+      inl (record {
+        no_log = λ has. no_log wrong (subst (HasLog orders) parts has);
         front = front;
         rest = old.rest;
         parts = parts;
         right = begins;
-        wrong = none-follows old.rest lacks;
+        wrong = wrong;
         place = omega (arith, refuses.0);
-      }
-  refused-next old lines OutOfMemory parts same read begins refuses = tt
-
--- the line `end` alone ends a text
-pub end-alone : IsEnding (codes "end" ∷ [])
-end-alone = record { end_line = codes "end"; after = []; is = refl; ended = refl; blank = refl }
+      })
+  refused-next old lines (NotRising number) parts same read begins no_log refuses = absurd refuses
+  refused-next old lines (CountDiffers stated found) parts same read begins no_log refuses =
+      absurd refuses
+  refused-next old lines OutOfMemory parts same read begins no_log refuses = tt
 
 begins-by : (orders : ℕ) (front more : List (List ℕ)) (answer : Answer)
+    → Ends (refutation_of answer) (codes "end" ∷ [])
     → front ++ more ≡ map spell (lines_of answer) ++ codes "end" ∷ []
     → AreWithin orders (take (length front) (lines_of answer)) → Begins orders front
-begins-by orders front more answer e within =
+begins-by orders front more answer ends e within =
     record {
       answer = answer;
       more = more;
-      spells = record { ending = codes "end" ∷ []; is = e; ends = end-alone };
+      spells = record { ending = codes "end" ∷ []; is = e; ends = ends };
       within = within;
     }
 
 pub begins-nothing : (orders : ℕ) → Begins orders []
-begins-nothing orders = begins-by orders [] _ (Infeasible 0) refl tt
+begins-nothing orders = begins-by orders [] _ (Infeasible 0) end-alone refl tt
 
 pub begins-optimal : (orders : ℕ) → Begins orders (codes "optimal" ∷ [])
 begins-optimal orders =
     begins-by orders (codes "optimal" ∷ [])
-    (spell (loss 0) ∷ spell (plan []) ∷ codes "end" ∷ []) (Optimal 0 []) refl (tt, tt)
+    (spell (loss 0) ∷ spell (plan []) ∷ codes "end" ∷ []) (Optimal 0 [] None) end-alone refl
+    (tt, tt)
 
 pub begins-feasible : (orders : ℕ) → Begins orders (codes "feasible" ∷ [])
 begins-feasible orders =
     begins-by orders (codes "feasible" ∷ [])
     (spell (loss 0) ∷ spell (plan []) ∷ spell (spent 0) ∷ codes "end" ∷ [])
-    (Feasible 0 [] 0) refl (tt, tt)
+    (Feasible 0 [] 0) end-alone refl (tt, tt)
 
 pub begins-infeasible : (orders : ℕ) → Begins orders (codes "infeasible" ∷ [])
 begins-infeasible orders =
     begins-by orders (codes "infeasible" ∷ []) (spell (order 0) ∷ codes "end" ∷ [])
-    (Infeasible 0) refl (tt, tt)
+    (Infeasible 0) end-alone refl (tt, tt)
 
 pub begins-optimal_loss : (orders lost : ℕ) → IsWithin orders (loss lost)
     → Begins orders (codes "optimal" ∷ spell (loss lost) ∷ [])
 begins-optimal_loss orders lost h =
     begins-by orders (codes "optimal" ∷ spell (loss lost) ∷ [])
-    (spell (plan []) ∷ codes "end" ∷ []) (Optimal lost []) refl (tt, (h, tt))
+    (spell (plan []) ∷ codes "end" ∷ []) (Optimal lost [] None) end-alone refl (tt, (h, tt))
 
 pub begins-feasible_loss : (orders lost : ℕ) → IsWithin orders (loss lost)
     → Begins orders (codes "feasible" ∷ spell (loss lost) ∷ [])
 begins-feasible_loss orders lost h =
     begins-by orders (codes "feasible" ∷ spell (loss lost) ∷ [])
-    (spell (plan []) ∷ spell (spent 0) ∷ codes "end" ∷ []) (Feasible lost [] 0) refl (tt, (h, tt))
+    (spell (plan []) ∷ spell (spent 0) ∷ codes "end" ∷ []) (Feasible lost [] 0) end-alone refl
+    (tt, (h, tt))
 
 pub begins-feasible_plan : (orders lost : ℕ) (slabs : List ℕ) → IsWithin orders (loss lost)
     → IsWithin orders (plan slabs)
     → Begins orders (codes "feasible" ∷ spell (loss lost) ∷ spell (plan slabs) ∷ [])
 begins-feasible_plan orders lost slabs h k =
     begins-by orders (codes "feasible" ∷ spell (loss lost) ∷ spell (plan slabs) ∷ [])
-    (spell (spent 0) ∷ codes "end" ∷ []) (Feasible lost slabs 0) refl (tt, (h, (k, tt)))
+    (spell (spent 0) ∷ codes "end" ∷ []) (Feasible lost slabs 0) end-alone refl (tt, (h, (k, tt)))
 
 -- the line that names an answer's kind
 abbrev pub kind_of : Answer → Line
-kind_of (Optimal lost slabs) = kind (codes "optimal")
+kind_of (Optimal lost slabs refutation) = kind (codes "optimal")
 kind_of (Feasible lost slabs closed) = kind (codes "feasible")
 kind_of (Infeasible place) = kind (codes "infeasible")
 
 pub awaits-kind : (orders : ℕ) → Awaits kind_of orders []
-awaits-kind orders (Optimal l p) rest s w =
-    record { thing = Optimal l p; more = _; is = s.is; within = tt }
+awaits-kind orders (Optimal l p r) rest s w =
+    record { thing = Optimal l p r; more = _; is = s.is; within = tt }
 awaits-kind orders (Feasible l p k) rest s w =
     record { thing = Feasible l p k; more = _; is = s.is; within = tt }
 awaits-kind orders (Infeasible i) rest s w =
@@ -135,7 +142,7 @@ awaits-kind orders (Infeasible i) rest s w =
 -- behind `optimal` nothing but an optimal answer goes on
 module _ (orders : ℕ) where
   pub awaits-optimal : Awaits loss orders (codes "optimal" ∷ [])
-  awaits-optimal (Optimal l p) rest s w =
+  awaits-optimal (Optimal l p r) rest s w =
       let e : codes "optimal" ∷ rest
       ≡ codes "optimal" ∷ spell (loss l) ∷ spell (plan p) ∷ s.ending = s.is in
       record { thing = l; more = spell (plan p) ∷ s.ending; is = cc; within = w.1.0 }
@@ -146,7 +153,7 @@ module _ (orders : ℕ) where
 
   pub awaits-optimal_loss : (lost : ℕ)
       → Awaits plan orders (codes "optimal" ∷ spell (loss lost) ∷ [])
-  awaits-optimal_loss lost (Optimal l p) rest s w =
+  awaits-optimal_loss lost (Optimal l p r) rest s w =
       let e : codes "optimal" ∷ spell (loss lost) ∷ rest
       ≡ codes "optimal" ∷ spell (loss l) ∷ spell (plan p) ∷ s.ending = s.is in
       record { thing = p; more = s.ending; is = cc; within = w.1.1.0 }
@@ -156,7 +163,7 @@ module _ (orders : ℕ) where
       absurd (omega (arith, first-byte (codes "optimal") (codes "infeasible") _ _ s.is))
 
   pub awaits-feasible : Awaits loss orders (codes "feasible" ∷ [])
-  awaits-feasible (Optimal l p) rest s w =
+  awaits-feasible (Optimal l p r) rest s w =
       absurd (omega (arith, first-byte (codes "feasible") (codes "optimal") _ _ s.is))
   awaits-feasible (Feasible l p k) rest s w =
       let e : codes "feasible" ∷ rest
@@ -173,7 +180,7 @@ module _ (orders : ℕ) where
 
   pub awaits-feasible_loss : (lost : ℕ)
       → Awaits plan orders (codes "feasible" ∷ spell (loss lost) ∷ [])
-  awaits-feasible_loss lost (Optimal l p) rest s w =
+  awaits-feasible_loss lost (Optimal l p r) rest s w =
       absurd (omega (arith, first-byte (codes "feasible") (codes "optimal") _ _ s.is))
   awaits-feasible_loss lost (Feasible l p k) rest s w =
       let e : codes "feasible" ∷ spell (loss lost) ∷ rest
@@ -185,7 +192,7 @@ module _ (orders : ℕ) where
 
   pub awaits-feasible_plan : (lost : ℕ) (slabs : List ℕ)
       → Awaits spent orders (codes "feasible" ∷ spell (loss lost) ∷ spell (plan slabs) ∷ [])
-  awaits-feasible_plan lost slabs (Optimal l p) rest s w =
+  awaits-feasible_plan lost slabs (Optimal l p r) rest s w =
       absurd (omega (arith, first-byte (codes "feasible") (codes "optimal") _ _ s.is))
   awaits-feasible_plan lost slabs (Feasible l p k) rest s w =
       let e : codes "feasible" ∷ spell (loss lost) ∷ spell (plan slabs) ∷ rest
@@ -196,7 +203,7 @@ module _ (orders : ℕ) where
       absurd (omega (arith, first-byte (codes "feasible") (codes "infeasible") _ _ s.is))
 
   pub awaits-infeasible : Awaits order orders (codes "infeasible" ∷ [])
-  awaits-infeasible (Optimal l p) rest s w =
+  awaits-infeasible (Optimal l p r) rest s w =
       absurd (omega (arith, first-byte (codes "infeasible") (codes "optimal") _ _ s.is))
   awaits-infeasible (Feasible l p k) rest s w =
       absurd (omega (arith, first-byte (codes "infeasible") (codes "feasible") _ _ s.is))
@@ -204,48 +211,53 @@ module _ (orders : ℕ) where
       let e : codes "infeasible" ∷ rest ≡ codes "infeasible" ∷ spell (order i) ∷ s.ending = s.is in
       record { thing = i; more = s.ending; is = cc; within = w.1.0 }
 
--- behind all lines of an answer a wrong end is refused
-module _ (orders : ℕ) (answer : Answer) (fits : Fits orders answer) where
-  count-lines : (ls : List Line) → length (map spell ls) ≡ length ls
-  count-lines [] = refl
-  count-lines (l ∷ ls) = omega (arith, count-lines ls)
+count-lines : (lines : List Line) → length (map spell lines) ≡ length lines
+count-lines [] = refl
+count-lines (line ∷ lines) = omega (arith, count-lines lines)
 
-  no-end : (rest : List (List ℕ))
-      → ((end_line : List ℕ) → is_end end_line ≡ true → ¬ (BeginsWith rest (end_line ∷ [])))
+-- behind all lines of an answer without a log a wrong end is refused
+module _ (orders : ℕ) (answer : Answer) (within : AreWithin orders (lines_of answer))
+    (plain : refutation_of answer ≡ None) (rest : List (List ℕ))
+    (no_log : ¬ (HasLog orders (map spell (lines_of answer) ++ rest))) where
+  ends-plain : (lines : List (List ℕ)) → IsEnding lines → Ends (refutation_of answer) lines
+  ends-plain lines e = subst (λ r. Ends r lines) (sym plain) e
+
+  no-end : (rest : List (List ℕ)) → Never (MayFollow answer) rest
       → NextIsWrong orders (map spell (lines_of answer)) rest
-  no-end [] none =
+  no-end [] never =
       λ (other : Answer) (text : IsAnswerText orders other (map spell (lines_of answer))).
       let same : map spell (lines_of answer) ≡ map spell (lines_of answer) ++ [] =
       sym (append-nil (map spell (lines_of answer))) in
-      let e : IsEnding [] = ending-of answer other [] (subst (Spells other) same text.spells) in
-      absurd (let z : [] ≡ e.end_line ∷ e.after = e.is in cc)
-  no-end (next ∷ rest) none =
+      never (ending-of answer other [] (subst (Spells other) same text.spells))
+  no-end (next ∷ rest) never =
       λ (begins : Begins orders (map spell (lines_of answer) ++ next ∷ [])).
       let same : (map spell (lines_of answer) ++ next ∷ []) ++ begins.more
       ≡ map spell (lines_of answer) ++ next ∷ begins.more =
       append_assoc (map spell (lines_of answer)) (next ∷ []) begins.more in
-      let e : IsEnding (next ∷ begins.more) = ending-of answer begins.answer (next ∷ begins.more)
-      (subst (Spells begins.answer) same begins.spells) in
-      let z : next ∷ begins.more ≡ e.end_line ∷ e.after = e.is in
-      let here : next ≡ e.end_line = cc in
-      none e.end_line e.ended (record { more = rest; is = ap (λ l. l ∷ rest) here })
+      never begins.more (ending-of answer begins.answer (next ∷ begins.more)
+      (subst (Spells begins.answer) same begins.spells))
 
-  bad-end : (rest : List (List ℕ)) (place : ℕ) → LacksEnd rest place
-      → IsBadLine orders (map spell (lines_of answer) ++ rest) (length (lines_of answer) + place)
-  bad-end rest place lacks =
+  -- nothing that may follow comes next
+  pub bad-end : Never (MayFollow answer) rest
+      → IsBadWithoutLog orders (map spell (lines_of answer) ++ rest) (length (lines_of answer) + 1)
+  bad-end never =
       record {
+        no_log = no_log;
         front = map spell (lines_of answer);
         rest = rest;
         parts = refl;
-        right = begins-by orders (map spell (lines_of answer)) (codes "end" ∷ []) answer refl
-            (within-take orders (length (map spell (lines_of answer))) (lines_of answer) fits);
-        wrong = no-end rest lacks.none;
-        place = omega (arith, lacks.is, count-lines (lines_of answer));
+        right = begins-by orders (map spell (lines_of answer)) (codes "end" ∷ []) answer
+            (ends-plain (codes "end" ∷ []) end-alone) refl
+            (within-take orders (length (map spell (lines_of answer))) (lines_of answer) within);
+        wrong = no-end rest never;
+        place = omega (arith, count-lines (lines_of answer));
       }
 
-  bad-more : (rest : List (List ℕ)) (place : ℕ) → HasMore rest place
-      → IsBadLine orders (map spell (lines_of answer) ++ rest) (length (lines_of answer) + place)
-  bad-more rest place has =
+  -- behind `end` a line has more than white space
+  bad-more : (place : ℕ) → HasMore rest place
+      → IsBadWithoutLog orders (map spell (lines_of answer) ++ rest)
+      (length (lines_of answer) + place)
+  bad-more place has =
       let f = filled-at has.after has.behind has.filled in
       let front = map spell (lines_of answer) ++ has.end_line ∷ f.blanks in
       let count : length front ≡ length (lines_of answer) + 1 + has.behind =
@@ -256,6 +268,7 @@ module _ (orders : ℕ) (answer : Answer) (fits : Fits orders answer) where
         f.count,
       ) in
       record {
+        no_log = no_log;
         front = front;
         rest = f.line ∷ f.more;
         parts = ap (λ l. map spell (lines_of answer) ++ l)
@@ -268,15 +281,15 @@ module _ (orders : ℕ) (answer : Answer) (fits : Fits orders answer) where
           spells = record {
             ending = has.end_line ∷ f.blanks;
             is = append-nil front;
-            ends = record {
+            ends = ends-plain (has.end_line ∷ f.blanks) (record {
               end_line = has.end_line;
               after = f.blanks;
               is = refl;
               ended = has.ended;
               blank = f.blank;
-            };
+            });
           };
-          within = within-take orders (length front) (lines_of answer) fits;
+          within = within-take orders (length front) (lines_of answer) within;
         };
         wrong = λ begins.
             let same : (front ++ f.line ∷ []) ++ begins.more
@@ -284,32 +297,29 @@ module _ (orders : ℕ) (answer : Answer) (fits : Fits orders answer) where
             append_assoc front (f.line ∷ []) begins.more
             ∙ append_assoc (map spell (lines_of answer)) (has.end_line ∷ f.blanks)
             (f.line ∷ begins.more) in
-            let e = ending-of answer begins.answer
-            (has.end_line ∷ (f.blanks ++ f.line ∷ begins.more))
-            (subst (Spells begins.answer) same begins.spells) in
-            let z : has.end_line ∷ (f.blanks ++ f.line ∷ begins.more)
-            ≡ e.end_line ∷ e.after = e.is in
-            let after : e.after ≡ f.blanks ++ f.line ∷ begins.more = cc in
-            let blank : is_blank f.line ≡ true =
-            each-blank f.blanks f.line begins.more 0
-            (subst (λ ls. first_filled ls ≡ None) after e.blank) in
-            let not_blank : is_blank f.line ≡ false = f.filled in
-            absurd (let z : true ≡ false = cc in cc);
+            never-more answer has.end_line f.blanks f.line begins.more has.ended f.filled
+            (ending-of answer begins.answer (has.end_line ∷ (f.blanks ++ f.line ∷ begins.more))
+            (subst (Spells begins.answer) same begins.spells));
         place = omega (arith, has.is);
       }
 
-  pub refused-end : (old : Reading) (error : AnswerTextError) → old.read ≡ length (lines_of answer)
-      → RefusesEnding old error
-      → IsRefused orders (map spell (lines_of answer) ++ old.rest) error
-  refused-end old (BadLine number) read refuses =
-      let at_place = by_cause old.rest refuses.0 refuses.2 in
+  pub refused-end : (old : Reading) (error : AnswerTextError) → old.rest ≡ rest
+      → old.read ≡ length (lines_of answer)
+      → (LacksEnd rest → Never (MayFollow answer) rest) → RefusesEnding old error
+      → IsRefused orders (map spell (lines_of answer) ++ rest) error
+  refused-end old (BadLine number) here read never refuses =
+      let at_place = by_cause refuses.0 (subst (λ r. IsBadEnding r refuses.0) here refuses.2) in
       let same : length (lines_of answer) + refuses.0 ≡ number =
       omega (arith, refuses.1) in
-      subst (λ n. IsBadLine orders (map spell (lines_of answer) ++ old.rest) n) same at_place
+      inl (subst (IsBadWithoutLog orders (map spell (lines_of answer) ++ rest)) same at_place)
     where
-      by_cause : (rest : List (List ℕ)) (place : ℕ) → LacksEnd rest place ⊎ HasMore rest place
-          → IsBadLine orders (map spell (lines_of answer) ++ rest)
+      by_cause : (place : ℕ) → IsBadEnding rest place
+          → IsBadWithoutLog orders (map spell (lines_of answer) ++ rest)
           (length (lines_of answer) + place)
-      by_cause rest place (inl lacks) = bad-end rest place lacks
-      by_cause rest place (inr has) = bad-more rest place has
-  refused-end old OutOfMemory read refuses = tt
+      by_cause place (inl lacks) =
+          subst (λ n. IsBadWithoutLog orders (map spell (lines_of answer) ++ rest)
+          (length (lines_of answer) + n)) (sym lacks.1) (bad-end (never lacks.0))
+      by_cause place (inr has) = bad-more place has
+  refused-end old (NotRising number) here read never refuses = absurd refuses
+  refused-end old (CountDiffers stated found) here read never refuses = absurd refuses
+  refused-end old OutOfMemory here read never refuses = tt

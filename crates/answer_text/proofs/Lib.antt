@@ -1,7 +1,12 @@
 pub mod Lines
 pub mod Ending
+pub mod Fronts
 pub mod Begins
+pub mod InLog
 pub mod Unique
 pub mod OneLine
-pub mod Refusals
+pub mod KindLine
+pub mod BehindOptimal
+pub mod BehindFeasible
+pub mod BehindInfeasible
 pub mod Printed

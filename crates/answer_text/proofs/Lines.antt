@@ -1,14 +1,13 @@
 -- The lines of an answer: their words, and what they are read back as.
-use Rattle.std.proofs.Common.{ℕ, ◌+◌, ◌^◌, ◌<◌, ◌≤◌, ◌≡◌, Bool, true, List, [], ◌∷◌}
-use Rattle.std.proofs.Common.{length, All, codes, refl, sym, ap, ◌∙◌, arith}
+use Rattle.std.proofs.Common.{ℕ, ◌+◌, ◌^◌, ◌<◌, ◌≤◌, ◌≡◌, Bool, true, List, [], ◌∷◌, length, codes}
+use Rattle.std.proofs.Common.{refl, sym, ap, ◌∙◌, arith}
 use Rattle.std.proofs.lemmas.Fmt.{decimal_injective}
-use Rattle.std.proofs.lemmas.List.Elements.{All-head, All-tail}
 use Rattle.std.specs.Fmt.{decimal}
 use Rattle.line_text.specs.Words.{line_words, line_of}
 use Rattle.line_text.specs.Numbers.{ordinal, ordinals}
 use Rattle.line_text.proofs.Cuts.{lacks}
 use Rattle.line_text.proofs.Plain.{is_plain, are_plain, plain-decimal, plain-ordinals, words-line}
-use Rattle.line_text.proofs.Plain.{line-words, lacks-line}
+use Rattle.line_text.proofs.Plain.{line-words, lacks-line, ordinals-injective}
 use Rattle.answer_text.specs.Line.{Line, kind, loss, plan, spent, order, words_of, spell, IsWithin}
 
 -- whether the name of a kind is plain
@@ -83,24 +82,6 @@ same-order orders m n small l k e =
     let d : ordinal m ≡ ordinal n = cc in
     let s : m + 1 ≡ n + 1 = decimal_injective (m + 1) (n + 1) (omega arith) (omega arith) d in
     omega arith
-
-ordinals-injective : (most : ℕ) (xs ys : List ℕ) → most < 2 ^ 63 → All (λ x. x < most) xs
-    → All (λ y. y < most) ys → ordinals xs ≡ ordinals ys → xs ≡ ys
-ordinals-injective most [] [] small h k e = refl
-ordinals-injective most [] (y ∷ ys) small h k e =
-    absurd (let z : [] ≡ ordinal y ∷ ordinals ys = e in cc)
-ordinals-injective most (x ∷ xs) [] small h k e =
-    absurd (let z : ordinal x ∷ ordinals xs ≡ [] = e in cc)
-ordinals-injective most (x ∷ xs) (y ∷ ys) small h k e =
-    let z : ordinal x ∷ ordinals xs ≡ ordinal y ∷ ordinals ys = e in
-    let d : ordinal x ≡ ordinal y = cc in let t : ordinals xs ≡ ordinals ys = cc in
-    let l : x < most = All-head (λ n. n < most) x xs h in
-    let m : y < most = All-head (λ n. n < most) y ys k in
-    let s : x + 1 ≡ y + 1 = decimal_injective (x + 1) (y + 1) (omega arith) (omega arith) d in
-    let same : x ≡ y = omega arith in
-    let rest : xs ≡ ys = ordinals-injective most xs ys small
-    (All-tail (λ n. n < most) x xs h) (All-tail (λ n. n < most) y ys k) t in
-    cc
 
 pub same-plan : (orders : ℕ) (xs ys : List ℕ) → orders < 2 ^ 63 → IsWithin orders (plan xs)
     → IsWithin orders (plan ys) → spell (plan xs) ≡ spell (plan ys) → xs ≡ ys

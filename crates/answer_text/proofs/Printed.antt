@@ -1,80 +1,99 @@
 -- What is printed of an answer, and that it is read back.
-use Rattle.std.proofs.Common.{ℕ, ◌^◌, ◌<◌, ◌≤◌, ◌≡◌, true, List, [], ◌∷◌, ◌++◌, map}
-use Rattle.std.proofs.Common.{flat_map, codes, refl, subst, sym, ap, ◌∙◌, arith, append_assoc}
+use Rattle.std.proofs.Common.{ℕ, ◌^◌, ◌<◌, ◌≤◌, ◌≡◌, true, List, [], ◌∷◌, ◌++◌, map, flat_map}
+use Rattle.std.proofs.Common.{Option, Some, None, IfSome, codes, refl, subst, sym, ap, ◌∙◌, arith}
+use Rattle.std.proofs.Common.{append_assoc, Result, Ok, Err, OnOk, ◌+◌}
 use Rattle.std.proofs.lemmas.Bool.{and_parts, and_from}
+use Rattle.std.proofs.lemmas.List.Folds.{list_all-append}
 use Rattle.std.specs.List.{list_all}
 use Rattle.std.specs.Fmt.{decimal}
 use Rattle.line_text.specs.Lines.{text_lines, text_of}
 use Rattle.line_text.specs.Numbers.{ordinal, ordinals}
 use Rattle.line_text.proofs.Cuts.{lacks}
-use Rattle.line_text.proofs.Plain.{line-cons, lines-text}
+use Rattle.line_text.proofs.Plain.{line-cons, lines-text, text_of-append}
 use Rattle.mill_model.specs.declared.order.TheConstants.{MAX_ORDERS}
+use Rattle.refute_log.specs.Logged.{Logged, IsLog}
+use Rattle.refute_log.proofs.RecordLines.{spaced-path}
+use Rattle.refute_log.proofs.PrintedLog.{log-lines, feedless-log}
 use Rattle.answer_text.specs.declared.answer.Answer.{Answer}
 use Rattle.answer_text.specs.declared.answer.Answer.TheVariants.{Optimal, Feasible, Infeasible}
 use Rattle.answer_text.specs.Line.{Line, loss, plan, spell, AreWithin}
-use Rattle.answer_text.specs.Text.{lines_of, answer_text, most_orders, Fits, IsAnswerText}
+use Rattle.answer_text.specs.Text.{lines_of, refutation_of, lines_of_log, answer_text, most_orders}
+use Rattle.answer_text.specs.Text.{Fits, Ends, IsAnswerText}
 use Rattle.answer_text.proofs.Lines.{plain_name, lacks-spell}
-use Rattle.answer_text.proofs.Begins.{end-alone}
+use Rattle.answer_text.proofs.Fronts.{end-alone}
 
 plain-lines : (answer : Answer) → list_all plain_name (lines_of answer) ≡ true
-plain-lines (Optimal lost slabs) = refl
+plain-lines (Optimal lost slabs refutation) = refl
 plain-lines (Feasible lost slabs closed) = refl
 plain-lines (Infeasible place) = refl
 
 lacks-lines : (orders : ℕ) (lines : List Line) → orders < 2 ^ 63
     → list_all plain_name lines ≡ true → AreWithin orders lines
-    → list_all (lacks 10) (map spell lines ++ codes "end" ∷ []) ≡ true
+    → list_all (lacks 10) (map spell lines) ≡ true
 lacks-lines orders [] small plain within = refl
 lacks-lines orders (line ∷ lines) small plain within =
     let p = and_parts (plain_name line) (list_all plain_name lines) plain in
-    and_from (lacks 10 (spell line)) (list_all (lacks 10) (map spell lines ++ codes "end" ∷ []))
+    and_from (lacks 10 (spell line)) (list_all (lacks 10) (map spell lines))
     (lacks-spell orders line small p.0 within.0) (lacks-lines orders lines small p.1 within.1)
 
 -- an answer for at most `MAX_ORDERS` orders may be printed
 pub may-print : (orders : ℕ) (answer : Answer) → orders ≤ MAX_ORDERS → Fits orders answer
     → Fits (most_orders answer) answer
-may-print orders (Optimal lost slabs) few fits =
-    subst (λ n. Fits n (Optimal lost slabs)) (sym fits.1.1.0.0) fits
+may-print orders (Optimal lost slabs refutation) few fits =
+    subst (λ n. Fits n (Optimal lost slabs refutation)) (sym fits.numbers.1.1.0.0) fits
 may-print orders (Feasible lost slabs closed) few fits =
-    subst (λ n. Fits n (Feasible lost slabs closed)) (sym fits.1.1.0.0) fits
+    subst (λ n. Fits n (Feasible lost slabs closed)) (sym fits.numbers.1.1.0.0) fits
 may-print orders (Infeasible place) few fits =
-    let l : place < orders = fits.1.0 in
+    let l : place < orders = fits.numbers.1.0 in
     let m : place < MAX_ORDERS = omega arith in
-    (tt, (m, tt))
-
-text_of-append : (xs ys : List (List ℕ)) → text_of (xs ++ ys) ≡ text_of xs ++ text_of ys
-text_of-append [] ys = refl
-text_of-append (x ∷ xs) ys =
-    ap (λ l. x ++ 10 ∷ l) (text_of-append xs ys)
-    ∙ sym (append_assoc x (10 ∷ text_of xs) (text_of ys))
+    record { numbers = (tt, (m, tt)); refutation = tt }
 
 -- the lines before `end`, and `end`
 pub printed-answer : (answer : Answer) (start lines text : List ℕ) → start ≡ []
-    → lines ≡ start ++ text_of (map spell (lines_of answer)) → text ≡ lines ++ codes "end\n"
-    → text ≡ answer_text answer
+    → lines ≡ start ++ text_of (map spell (lines_of answer) ++ lines_of_log (refutation_of answer))
+    → text ≡ lines ++ codes "end\n" → text ≡ answer_text answer
 printed-answer answer start lines text a b c =
-    c ∙ ap (λ l. l ++ codes "end\n") (b ∙ ap (λ l. l ++ text_of (map spell (lines_of answer))) a)
-    ∙ sym (text_of-append (map spell (lines_of answer)) (codes "end" ∷ []))
+    let front = map spell (lines_of answer) in let log = lines_of_log (refutation_of answer) in
+    c ∙ ap (λ l. l ++ codes "end\n") (b ∙ ap (λ l. l ++ text_of (front ++ log)) a)
+    ∙ sym (text_of-append (front ++ log) (codes "end" ∷ []))
+    ∙ ap text_of (append_assoc front log (codes "end" ∷ []))
+
+log-ends : (refutation : Option Logged) → IfSome refutation IsLog
+    → Ends refutation (lines_of_log refutation ++ codes "end" ∷ [])
+log-ends None is = end-alone
+log-ends (Some log) is = log-lines log is
+
+lacks-log : (refutation : Option Logged) → IfSome refutation IsLog
+    → list_all (lacks 10) (lines_of_log refutation ++ codes "end" ∷ []) ≡ true
+lacks-log None is = refl
+lacks-log (Some log) is = feedless-log log is
 
 -- what is printed of an answer stands for it
 pub read-back : (orders : ℕ) (answer : Answer) (text : List ℕ) → text ≡ answer_text answer
-    → orders ≤ MAX_ORDERS → Fits orders answer → IsAnswerText orders answer (text_lines text)
-read-back orders answer text printed few fits =
+    → IfSome (refutation_of answer) IsLog → orders ≤ MAX_ORDERS → Fits orders answer
+    → IsAnswerText orders answer (text_lines text)
+read-back orders answer text printed is few fits =
     record {
       spells = record {
-        ending = codes "end" ∷ [];
-        is = ap text_lines printed
-            ∙ lines-text (map spell (lines_of answer) ++ codes "end" ∷ [])
-            (lacks-lines orders (lines_of answer) (omega arith) (plain-lines answer) fits);
-        ends = end-alone;
+        ending = ending;
+        is = ap text_lines printed ∙ lines-text (front ++ ending) feedless;
+        ends = log-ends (refutation_of answer) is;
       };
       fits = fits;
     }
+  where
+    front : List (List ℕ)
+    front = map spell (lines_of answer)
 
-spaced-plan : (slabs : List ℕ)
-    → flat_map (λ w. 32 ∷ w) (ordinals slabs) ≡ flat_map (λ s. 32 ∷ ordinal s) slabs
-spaced-plan [] = refl
-spaced-plan (slab ∷ slabs) = ap (λ l. (32 ∷ ordinal slab) ++ l) (spaced-plan slabs)
+    ending : List (List ℕ)
+    ending = lines_of_log (refutation_of answer) ++ codes "end" ∷ []
+
+    feedless : list_all (lacks 10) (front ++ ending) ≡ true
+    feedless =
+        list_all-append (lacks 10) front ending
+        ∙ and_from (list_all (lacks 10) front) (list_all (lacks 10) ending)
+        (lacks-lines orders (lines_of answer) (omega arith) (plain-lines answer) fits.numbers)
+        (lacks-log (refutation_of answer) is)
 
 -- the lines of a plan and what it loses, part by part
 pub printed-planned : (lost : ℕ) (slabs : List ℕ) (before one two three four : List ℕ)
@@ -84,7 +103,7 @@ pub printed-planned : (lost : ℕ) (slabs : List ℕ) (before one two three four
 printed-planned lost slabs before one two three four a b c d =
     let line : spell (plan slabs) ≡ codes "plan" ++ flat_map (λ s. 32 ∷ ordinal s) slabs =
     line-cons (codes "plan") (ordinals slabs)
-    ∙ ap (λ l. codes "plan" ++ l) (spaced-plan slabs) in
+    ∙ ap (λ l. codes "plan" ++ l) (spaced-path slabs) in
     rw (d, c, b, a, line) (grouped before (codes "loss " ++ decimal lost) (codes "plan")
     (flat_map (λ s. 32 ∷ ordinal s) slabs))
   where
@@ -92,3 +111,13 @@ printed-planned lost slabs before one two three four a b c d =
         → (((before ++ (first ++ 10 ∷ [])) ++ word) ++ rest) ++ 10 ∷ []
         ≡ before ++ (first ++ 10 ∷ ((word ++ rest) ++ 10 ∷ []))
     grouped before first word rest = simp append_assoc
+
+-- the lines that name an order are printed
+pub printed-order : {T E : Type 0} (result : Result T E) (place number : ℕ)
+    (before one two : List ℕ) → number ≡ place → one ≡ before ++ codes "infeasible\n"
+    → OnOk result (two ≡ one ++ (codes "order " ++ decimal (number + 1) ++ 10 ∷ []))
+    → OnOk result (two ≡ before ++ text_of (map spell (lines_of (Infeasible place)) ++ []))
+printed-order (Ok x) place number before one two n a b =
+    rw (b, a, n) (append_assoc before (codes "infeasible\n")
+    (codes "order " ++ decimal (place + 1) ++ 10 ∷ []))
+printed-order (Err e) place number before one two n a b = tt

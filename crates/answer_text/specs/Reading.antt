@@ -1,12 +1,15 @@
 -- The reader of an answer, line by line.
-use Rattle.std.specs.Prelude.{ℕ, ◌+◌, ◌≡◌, ◌⊎◌, true, List, [], ◌∷◌, ◌++◌, map, length, Some}
+use Rattle.std.specs.Prelude.{ℕ, ◌+◌, ◌≡◌, ◌⊎◌, true, List, [], ◌∷◌, Some, Err}
 use Rattle.line_text.specs.Lines.{is_end, first_filled}
 use Rattle.line_text.specs.Words.{BeginsWith}
-use Rattle.answer_text.specs.declared.answer.Answer.{Answer}
+use Rattle.refute_log.specs.Judged as in_log
+use Rattle.refute_log.specs.declared.error.LogTextError.{LogTextError}
 use Rattle.answer_text.specs.declared.error.AnswerTextError.{AnswerTextError}
-use Rattle.answer_text.specs.declared.error.AnswerTextError.TheVariants.{BadLine, OutOfMemory}
+use Rattle.answer_text.specs.declared.error.AnswerTextError.TheVariants.{BadLine, NotRising}
+use Rattle.answer_text.specs.declared.error.AnswerTextError.TheVariants.{CountDiffers}
+use Rattle.answer_text.specs.declared.error.AnswerTextError.TheVariants.{OutOfMemory}
 use Rattle.answer_text.specs.Line.{Line, spell, IsWithin}
-use Rattle.answer_text.specs.Text.{lines_of, Fits}
+use Rattle.answer_text.specs.Judged.{error_in_log}
 
 -- for how many orders the answer is, how many lines were read, and the lines that are still to be
 -- read
@@ -34,22 +37,16 @@ LacksAll {X} line orders rest =
 -- an error of a reader of one of these lines: the next line is none of them
 abbrev pub Refuses : {X : Type 0} → (X → Line) → Reading → AnswerTextError → Type 0
 Refuses line old (BadLine number) = (number ≡ old.read + 1) × LacksAll line old.orders old.rest
+Refuses line old (NotRising number) = ⊥
+Refuses line old (CountDiffers stated found) = ⊥
 Refuses line old OutOfMemory = Unit {0}
 
--- all lines of an answer before `end` were read, where a text's first lines were read already
-pub record ReadsAll (first : List (List ℕ)) (old : Reading) (answer : Answer) (new : Reading)
-    : Type 0 where
-  pub text : first ++ old.rest ≡ map spell (lines_of answer) ++ new.rest
-  pub fits : Fits old.orders answer
-  pub read : new.read ≡ length (lines_of answer)
-  pub orders : new.orders ≡ old.orders
-
 -- `end` does not come next
-pub record LacksEnd (rest : List (List ℕ)) (place : ℕ) : Type 0 where
-  pub none : (end_line : List ℕ) → is_end end_line ≡ true → ¬ (BeginsWith rest (end_line ∷ []))
-  pub is : place ≡ 1
+abbrev pub LacksEnd : List (List ℕ) → Type 0
+LacksEnd rest =
+    (end_line : List ℕ) → is_end end_line ≡ true → ¬ (BeginsWith rest (end_line ∷ []))
 
--- behind `end` a line has more than white space
+-- behind `end` a line has more than white space; places are counted from 1
 pub record HasMore (rest : List (List ℕ)) (place : ℕ) : Type 0 where
   pub end_line : List ℕ
   pub after : List (List ℕ)
@@ -59,8 +56,26 @@ pub record HasMore (rest : List (List ℕ)) (place : ℕ) : Type 0 where
   pub filled : first_filled after ≡ Some behind
   pub is : place ≡ behind + 2
 
+-- where the end of a text is wrong
+abbrev pub IsBadEnding : List (List ℕ) → ℕ → Type 0
+IsBadEnding rest place = (LacksEnd rest × (place ≡ 1)) ⊎ HasMore rest place
+
 -- an error of the reader of `end` and what stands behind it
 abbrev pub RefusesEnding : Reading → AnswerTextError → Type 0
 RefusesEnding old (BadLine number) =
-    (place : ℕ) × (number ≡ old.read + place) × (LacksEnd old.rest place ⊎ HasMore old.rest place)
+    (place : ℕ) × (number ≡ old.read + place) × IsBadEnding old.rest place
+RefusesEnding old (NotRising number) = ⊥
+RefusesEnding old (CountDiffers stated found) = ⊥
 RefusesEnding old OutOfMemory = Unit {0}
+
+-- an error of the reader of a log, where `end` does not come next
+pub record RefusesLog (old : Reading) (error : AnswerTextError) : Type 0 where
+  pub no_end : LacksEnd old.rest
+  pub cause : LogTextError
+  pub says : in_log.Says old.orders (old.read + 1) old.rest (Err cause)
+  pub is : error ≡ error_in_log cause
+
+-- an error of the reader of what stands behind the plan of an optimal answer
+abbrev pub RefusesRefutation : Reading → AnswerTextError → Type 0
+RefusesRefutation old error =
+    (¬ (LacksEnd old.rest) × RefusesEnding old error) ⊎ RefusesLog old error

@@ -1,18 +1,22 @@
 ghost use Rattle.std.specs.Prelude.{◌≡◌, ◌<◌, ◌+◌, ◌^◌, ◌∷◌, [], ℕ, length, codes};
-ghost use Rattle.std.specs.Prelude.{OnOk, OnErr, IfOk, IfErr, Ok, Err};
+ghost use Rattle.std.specs.Prelude.{OnOk, OnErr, IfOk, IfErr, IfSome, Ok, Err, true, false};
 ghost use Rattle.line_text.specs.Lines.{text_lines};
 ghost use Rattle.answer_text.specs.declared.answer.Answer.{Answer};
-ghost use Rattle.answer_text.specs.declared.error.AnswerTextError.TheVariants.{BadLine};
+ghost use Rattle.answer_text.specs.declared.error.AnswerTextError.TheVariants.{BadLine, NotRising};
+ghost use Rattle.answer_text.specs.declared.error.AnswerTextError.TheVariants.{CountDiffers};
 ghost use Rattle.answer_text.specs.Line.{loss, plan, spent, order};
-ghost use Rattle.answer_text.specs.Text.{IsEnding, IsAnswerText};
-ghost use Rattle.answer_text.specs.Judged.{IsBadLine, IsRefused, ComesWhere};
-ghost use Rattle.answer_text.specs.Reading.{IsNext, Reads, ReadsAll, Refuses, RefusesEnding};
+ghost use Rattle.answer_text.specs.Text.{IsEnding, Ends, IsAnswerText};
+ghost use Rattle.answer_text.specs.Judged.{IsBadLine, IsNotRising, CountIsOther, IsRefused};
+ghost use Rattle.answer_text.specs.Judged.{ComesWhere};
+ghost use Rattle.answer_text.specs.Reading.{IsNext, Reads, Refuses, RefusesEnding};
+ghost use Rattle.answer_text.specs.Reading.{LacksEnd, RefusesRefutation};
 
 use crate::answer::Answer;
 use crate::error::AnswerTextError;
 use crate::line::{number_on, order_on, plan_on};
 use line_text::{Lines, is_end};
 use mill_model::{Instance, Plan};
+use refute_log::{Log, read_log};
 use std::alloc::Global;
 use std::marker::Model;
 
@@ -35,6 +39,10 @@ pub fn parse_answer(
         (IsAnswerText (length instance.now.orders) answer (text_lines bytes.now)) }
     ensures bad_line { (line : ℕ) → ComesWhere result (Err (BadLine line))
         (IsBadLine (length instance.now.orders) (text_lines bytes.now) line) }
+    ensures not_rising { (line : ℕ) → ComesWhere result (Err (NotRising line))
+        (IsNotRising (length instance.now.orders) (text_lines bytes.now) line) }
+    ensures count_differs { (stated found : ℕ) → ComesWhere result (Err (CountDiffers stated found))
+        (CountIsOther (length instance.now.orders) (text_lines bytes.now) stated found) }
 {
     let orders = instance.orders().len() as u16;
     Reader::new(orders, Lines::new(bytes)).whole(alloc)
@@ -75,17 +83,6 @@ impl<'a> Reader<'a> {
             IsAnswerText self.entry.orders answer self.entry.rest) }
         ensures err { IfErr result (IsRefused self.entry.orders self.entry.rest) }
     {
-        let answer = self.answer(alloc)?;
-        self.end()?;
-        Ok(answer)
-    }
-
-    // The answer that the lines before `end` stand for.
-    fn answer(&mut self, alloc: Global) -> Result<Answer, AnswerTextError>
-        requires { self.old.read ≡ 0 }
-        ensures ok { IfOk result (λ answer. ReadsAll [] self.old answer self.new) }
-        ensures err { IfErr result (IsRefused self.old.orders self.old.rest) }
-    {
         let line = self.next_line()?;
         if line == b"optimal".as_slice() {
             self.optimal(alloc)
@@ -98,43 +95,72 @@ impl<'a> Reader<'a> {
         }
     }
 
-    // The answer behind the line `optimal`.
-    fn optimal(&mut self, alloc: Global) -> Result<Answer, AnswerTextError>
-        requires { self.old.read ≡ 1 }
+    // The answer that the line `optimal` and the lines behind it stand for.
+    fn optimal(mut self, alloc: Global) -> Result<Answer, AnswerTextError>
+        requires start { self.read ≡ 1 }
+        requires room { length self.rest < 2 ^ 63 }
         ensures ok { IfOk result (λ answer.
-            ReadsAll (codes "optimal" ∷ []) self.old answer self.new) }
+            IsAnswerText self.entry.orders answer (codes "optimal" ∷ self.entry.rest)) }
         ensures err { IfErr result
-            (IsRefused self.old.orders (codes "optimal" ∷ self.old.rest)) }
+            (IsRefused self.entry.orders (codes "optimal" ∷ self.entry.rest)) }
     {
         let loss = self.loss()?;
         let plan = self.plan(alloc)?;
-        Ok(Answer::Optimal { loss, plan })
+        let refutation = self.refutation(alloc)?;
+        Ok(Answer::Optimal {
+            loss,
+            plan,
+            refutation,
+        })
     }
 
-    // The answer behind the line `feasible`.
-    fn feasible(&mut self, alloc: Global) -> Result<Answer, AnswerTextError>
-        requires { self.old.read ≡ 1 }
+    // The answer that the line `feasible` and the lines behind it stand for.
+    fn feasible(mut self, alloc: Global) -> Result<Answer, AnswerTextError>
+        requires start { self.read ≡ 1 }
+        requires room { length self.rest < 2 ^ 63 }
         ensures ok { IfOk result (λ answer.
-            ReadsAll (codes "feasible" ∷ []) self.old answer self.new) }
+            IsAnswerText self.entry.orders answer (codes "feasible" ∷ self.entry.rest)) }
         ensures err { IfErr result
-            (IsRefused self.old.orders (codes "feasible" ∷ self.old.rest)) }
+            (IsRefused self.entry.orders (codes "feasible" ∷ self.entry.rest)) }
     {
         let loss = self.loss()?;
         let plan = self.plan(alloc)?;
         let spent = self.spent()?;
+        self.end()?;
         Ok(Answer::Feasible { loss, plan, spent })
     }
 
-    // The answer behind the line `infeasible`.
-    fn infeasible(&mut self) -> Result<Answer, AnswerTextError>
-        requires { self.old.read ≡ 1 }
+    // The answer that the line `infeasible` and the lines behind it stand for.
+    fn infeasible(mut self) -> Result<Answer, AnswerTextError>
+        requires start { self.read ≡ 1 }
+        requires room { length self.rest < 2 ^ 63 }
         ensures ok { IfOk result (λ answer.
-            ReadsAll (codes "infeasible" ∷ []) self.old answer self.new) }
+            IsAnswerText self.entry.orders answer (codes "infeasible" ∷ self.entry.rest)) }
         ensures err { IfErr result
-            (IsRefused self.old.orders (codes "infeasible" ∷ self.old.rest)) }
+            (IsRefused self.entry.orders (codes "infeasible" ∷ self.entry.rest)) }
     {
         let order = self.order()?;
+        self.end()?;
         Ok(Answer::Infeasible { order })
+    }
+
+    // The log that stands behind the plan of an optimal answer, if one does, to the text's end.
+    fn refutation(self, alloc: Global) -> Result<Option<Log>, AnswerTextError>
+        requires start { self.read < 2 ^ 32 }
+        requires few { self.orders < 2 ^ 16 }
+        requires room { length self.rest < 2 ^ 63 }
+        ensures ok { IfOk result (λ refutation. Ends refutation self.entry.rest) }
+        ensures orders { IfOk result (λ refutation. IfSome refutation (λ log.
+            log.orders ≡ self.entry.orders)) }
+        ensures err { IfErr result (RefusesRefutation self.entry) }
+    {
+        if self.comes_to_end() {
+            self.end()?;
+            Ok(None)
+        } else {
+            let log = read_log(alloc, self.orders, self.lines, self.read + 1)?;
+            Ok(Some(log))
+        }
     }
 
     fn loss(&mut self) -> Result<u64, AnswerTextError>
@@ -171,6 +197,17 @@ impl<'a> Reader<'a> {
     {
         let line = self.next_line()?;
         order_on(line, self.orders).ok_or(self.bad_line())
+    }
+
+    // Whether `end` is the next line.
+    fn comes_to_end(&self) -> bool
+        ensures yes { result ≡ true → ¬ (LacksEnd self.now.rest) }
+        ensures no { result ≡ false → LacksEnd self.now.rest }
+    {
+        match self.lines.peek() {
+            Some(line) => is_end(line),
+            None => false,
+        }
     }
 
     // Reads `end`, and judges what stands behind it.

@@ -6,7 +6,7 @@ use std::alloc::Global;
 use std::test::Fail;
 
 // An instance of this many orders, and of 1024 at most.
-fn instance_of(alloc: Global, orders: u16) -> Result<Instance, OutOfMemory>
+pub fn instance_of(alloc: Global, orders: u16) -> Result<Instance, OutOfMemory>
     ensures { IfOk result (λ instance. length instance.orders ≤ 1024) }
 {
     let order = Order {
@@ -48,7 +48,7 @@ fn refuses_at_the_first_wrong_line(rt: HostRuntime) -> Result<(), Fail> {
         (0, "optimal\nloss 0\nplan \nend\n", 3),
         (3, "optimal\nloss 4\nplan 1 1 2\n", 4),
         (3, "optimal\nloss 4\nplan 1 1 2\nspent 5\nend\n", 4),
-        (3, "optimal\nloss 4\nplan 1 1 2\nlog 1 0\nend\n", 4),
+        (3, "optimal\nloss 4\nplan 1 1 2\n\nlog 1 0\nend\n", 4),
         (3, "optimal\nloss 4\nplan 1 1 2\n end\n", 4),
         (3, "optimal\nloss 4\nplan 1 1 2\nend x\n", 4),
         (3, "optimal\nloss 4\nplan 1 1 2\nend\nx", 5),
@@ -161,7 +161,11 @@ fn counts_from_zero(rt: HostRuntime) -> Result<(), Fail> {
     let named = parse_answer(alloc, &instance, b"infeasible\norder 2\nend")?;
     assert!(rt; matches!(&named, Answer::Infeasible { order: 1 }));
     let plan = Plan::from_list(vec![in alloc; 0, 2, 0]?);
-    let answer = Answer::Optimal { loss: 9, plan };
+    let answer = Answer::Optimal {
+        loss: 9,
+        plan,
+        refutation: None,
+    };
     assert!(rt;
         print_answer(alloc, &answer)?.as_slice() == b"optimal\nloss 9\nplan 1 3 1\nend\n".as_slice()
     );

@@ -1,11 +1,11 @@
 -- The coming colours of a key: which they are, and that nothing else is known of them.
-use Rattle.std.proofs.Common.{ℕ, zero, suc, ◌+◌, ◌-◌, ◌<◌, ◌≤◌, ◌≡◌, ◌≢◌, ◌⊎◌, Bool, true, false}
+use Rattle.std.proofs.Common.{ℕ, zero, suc, ◌+◌, ◌-◌, ◌<◌, ◌≤◌, ◌≡◌, ◌⊎◌, Bool, true, false}
 use Rattle.std.proofs.Common.{cond}
-use Rattle.std.proofs.Common.{◌&&◌, not, List, [], ◌∷◌, ◌++◌, filter, length, take, get_or, set}
+use Rattle.std.proofs.Common.{◌&&◌, List, [], ◌∷◌, ◌++◌, filter, length, take, get_or, set}
 use Rattle.std.proofs.Common.{eqb, ltb}
-use Rattle.std.proofs.Common.{eqb-true, eq-eqb, ne_eqb, lt-ltb, le-ltb, ltb-false, refl, sym, ap}
+use Rattle.std.proofs.Common.{eqb-true, eq-eqb, ne_eqb, le-ltb, ltb-false, refl, sym, ap}
 use Rattle.std.proofs.Common.{ap₂, ◌∙◌}
-use Rattle.std.proofs.Common.{subst, arith, inl, inr, replicate, append_assoc, append-nil, All}
+use Rattle.std.proofs.Common.{subst, arith, inl, inr, replicate, append-nil, All}
 use Rattle.std.proofs.lemmas.Bool.{cases_lt}
 use Rattle.std.proofs.lemmas.List.{get_or_default}
 use Rattle.std.proofs.lemmas.List.Elements.{filter-append, All-append, All-filter}

@@ -1,17 +1,16 @@
 -- The last ranks of the colours, one order more at a time.
-use Rattle.std.proofs.Common.{ℕ, zero, suc, ◌+◌, ◌<◌, ◌≤◌, ◌≡◌, ◌≢◌, Bool, true, false, ◌||◌, List}
+use Rattle.std.proofs.Common.{ℕ, zero, suc, ◌<◌, ◌≤◌, ◌≡◌, ◌≢◌, Bool, true, false, ◌||◌, List}
 use Rattle.std.proofs.Common.{[]}
-use Rattle.std.proofs.Common.{◌∷◌, ◌++◌, map, length, take, drop, get_or, set, eqb, ltb, eqb-true}
+use Rattle.std.proofs.Common.{◌∷◌, ◌++◌, length, take, drop, get_or, set, eqb, ltb, eqb-true}
 use Rattle.std.proofs.Common.{eq-eqb}
-use Rattle.std.proofs.Common.{lt-ltb, le-ltb, refl, sym, ap, ◌∙◌, arith, inl, inr}
-use Rattle.std.proofs.lemmas.List.{get_or-set_same, get_or-set_other, drop_all, length-take-le}
-use Rattle.std.proofs.lemmas.List.{map-append}
+use Rattle.std.proofs.Common.{lt-ltb, le-ltb, refl, ap, ◌∙◌, arith, inl, inr}
+use Rattle.std.proofs.lemmas.List.{get_or-set_same, get_or-set_other, drop_all}
 use Rattle.std.proofs.lemmas.Bool.{cases_lt}
-use Rattle.mill_model.specs.Sets.{holds}
 use Rattle.mill_model.specs.LiveKey.{has_colour}
 use Rattle.mill_model.specs.declared.order.Order.{Order}
-use Rattle.mill_model.proofs.Different.{either, holds-append, or-right}
+use Rattle.mill_model.proofs.Different.{either}
 use Rattle.log_checker.specs.Groups.{no_order}
+use Rattle.log_checker.proofs.GroupLemmas.{has-push}
 
 -- the orders from a rank on, among the first
 taken-more : (k i : ℕ) (orders : List Order) → i < length orders → k ≤ i →
@@ -28,12 +27,6 @@ taken-none k zero orders l = drop_all k [] (omega arith)
 taken-none k (suc i) [] l = drop_all k [] (omega arith)
 taken-none zero (suc i) (o ∷ orders) l = absurd (omega arith)
 taken-none (suc k) (suc i) (o ∷ orders) l = taken-none k i orders (omega arith)
-
-has-more : (orders : List Order) (o : Order) (c : ℕ) →
-    has_colour (orders ++ o ∷ []) c ≡ (has_colour orders c || (eqb c o.colour || false))
-has-more orders o c =
-    ap (holds c) (map-append (λ x. x.colour) orders (o ∷ []))
-    ∙ holds-append c (map (λ x. x.colour) orders) (o.colour ∷ [])
 
 pub ends-none : (last : List ℕ) (orders : List Order) → ((c : ℕ) → get_or last c 0 ≡ 0) →
     (c k : ℕ) → has_colour (drop k (take 0 orders)) c ≡ ltb k (get_or last c 0)
@@ -76,7 +69,7 @@ ends-more last orders i h n so c k = elim (cases_lt i k) [
         ≡ ltb k (get_or (set last its (suc i)) c 0)
     earlier l =
         ap (λ xs. has_colour xs c) (taken-more k i orders h l)
-        ∙ has-more (drop k (take i orders)) (get_or orders i no_order) c
+        ∙ has-push (drop k (take i orders)) (get_or orders i no_order) c
         ∙ elim (either (eqb c its)) [
           | inl q ↦ (let s : c ≡ its = eqb-true c its q in
               let z : ltb k (suc i) ≡ true = lt-ltb k (suc i) (omega arith) in

@@ -25,7 +25,7 @@ colours-push orders o =
     ap different (map-append (λ x. x.colour) orders (o ∷ []))
     ∙ different-push o.colour (map (λ x. x.colour) orders)
 
-has-push : (orders : List Order) (o : Order) (c : ℕ) →
+pub has-push : (orders : List Order) (o : Order) (c : ℕ) →
     has_colour (orders ++ o ∷ []) c ≡ (has_colour orders c || (eqb c o.colour || false))
 has-push orders o c =
     ap (holds c) (map-append (λ x. x.colour) orders (o ∷ []))
@@ -226,15 +226,3 @@ slab-next g (x ∷ path) (o ∷ ranked) d h =
     step : (b : Bool) (x y z : List Order) → x ≡ y ++ z → cond b (o ∷ x) x ≡ cond b (o ∷ y) y ++ z
     step true x y z e = ap (λ l. o ∷ l) e
     step false x y z e = e
-
--- whether the next order may go into a group
-pub next-legal : (mill : Mill) (groups : List Seen) (path : List ℕ) (ranked : List Order) (g : ℕ)
-    (d : Order) → AreGroups groups path ranked → length path < length ranked →
-    legal mill (slab g (path ++ g ∷ []) ranked) ≡ may_be mill
-    (joined (get_or groups g nothing_seen) (get_or ranked (length path) d))
-next-legal mill groups path ranked g d it h =
-    ap (legal mill) (slab-next g path ranked d h) ∙ sym
-    (may_be-legal mill (joined (get_or groups g nothing_seen) (get_or ranked (length path) d))
-    (slab g path ranked ++ get_or ranked (length path) d ∷ [])
-    (seen-push (get_or groups g nothing_seen) (slab g path ranked) (get_or ranked (length path) d)
-    (it.seen g)))

@@ -1,15 +1,14 @@
 -- Keys: two groups have one exactly where the later orders see them alike, and two paths have the
 -- same live groups exactly where their keys in order are the same.
-use Rattle.std.proofs.Common.{ℕ, zero, suc, ◌+◌, ◌<◌, ◌≤◌, ◌≡◌, ◌≢◌, ◌⊎◌, ◌||◌, drop, Bool, true}
+use Rattle.std.proofs.Common.{ℕ, zero, suc, ◌+◌, ◌<◌, ◌≡◌, ◌≢◌, ◌||◌, drop, Bool, true}
 use Rattle.std.proofs.Common.{false, cond, not, ◌&&◌, List, []}
 use Rattle.std.proofs.Common.{◌∷◌, ◌++◌, map, length, get_or, eqb, eqb-true, eq-eqb, refl, sym, ap}
 use Rattle.std.proofs.Common.{ap₂, ◌∙◌, subst}
 use Rattle.std.proofs.Common.{arith, inl, inr, All, Ordering, Less, Equal, Greater}
 use Rattle.std.specs.Ordering.{nat_cmp, ordering_then, ordering_reverse, is_lt}
 use Rattle.std.specs.Cmp.{IsTotalOrder}
-use Rattle.std.specs.Cmp.Lexicographic.{slice_cmp}
 use Rattle.std.specs.List.{list_all}
-use Rattle.std.specs.List.Sorted.{IsPermutation, IsSortedByKey}
+use Rattle.std.specs.List.Sorted.{IsSortedByKey}
 use Rattle.std.proofs.lemmas.Cmp.{nat_cmp_total, nat_list_cmp_total, then_total, on_total}
 use Rattle.std.proofs.lemmas.List.MinMax.{ranks_by}
 use Rattle.std.proofs.lemmas.List.Sorted.{sorted_far, IsPermutation-map}
@@ -21,13 +20,13 @@ use Rattle.mill_model.specs.LiveKey.{has_colour, same_marks}
 use Rattle.mill_model.specs.declared.order.Order.{Order}
 use Rattle.mill_model.proofs.Different.{either}
 use Rattle.mill_laws.proofs.Law.{same_list-refl, same_list-eq}
-use Rattle.mill_laws.proofs.Lists.{Among, Among-unmap, and-left, and-right, same_times-all}
+use Rattle.mill_laws.proofs.Lists.{Among-unmap, and-left, and-right, same_times-all}
 use Rattle.mill_laws.proofs.Lists.{all-from}
-use Rattle.mill_laws.proofs.Mated.{same_marks-refl, same_marks-eq}
+use Rattle.mill_laws.proofs.Mated.{same_marks-refl}
 use Rattle.log_checker.specs.Groups.{Seen, nothing_seen}
-use Rattle.log_checker.specs.Live.{lives, marks, same_seen, picked, live_of, each_as_often}
+use Rattle.log_checker.specs.Live.{marks, same_seen, picked, each_as_often}
 use Rattle.log_checker.specs.Live.{same_live_seen}
-use Rattle.log_checker.specs.Keys.{key_order, key_in, group_in, AreComing, comes_in, IsKey, AreLive}
+use Rattle.log_checker.specs.Keys.{key_order, key_in, group_in, comes_in, IsKey}
 use Rattle.log_checker.specs.Keys.{AreSorted}
 use Rattle.log_checker.specs.Keys.{same_key, same_keys}
 use Rattle.log_checker.specs.declared.key.Key.{Key}

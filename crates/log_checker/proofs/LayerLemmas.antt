@@ -1,16 +1,16 @@
 -- Layers of tables: one colour more in all of them.
-use Rattle.std.proofs.Common.{ℕ, zero, suc, ◌+◌, ◌-◌, ◌*◌, ◌<◌, ◌≤◌, ◌≡◌, ◌⊎◌, Bool, true, false}
+use Rattle.std.proofs.Common.{ℕ, suc, ◌+◌, ◌-◌, ◌*◌, ◌<◌, ◌≤◌, ◌≡◌, ◌⊎◌}
 use Rattle.std.proofs.Common.{List}
-use Rattle.std.proofs.Common.{length, get_or, ℤ, pos, Option, refl, sym, ap, ◌∙◌, subst, arith, inl}
+use Rattle.std.proofs.Common.{length, get_or, ℤ, pos, sym, ◌∙◌, subst, arith, inl}
 use Rattle.std.proofs.Common.{inr}
 use Rattle.std.proofs.Common.{mul-le-mul_right, eq-or-lt_of_le}
 use Rattle.std.proofs.lemmas.Int.{ints}
 use Rattle.std.proofs.lemmas.List.{get_or_past}
 use Rattle.std.proofs.lemmas.Bool.{cases_lt}
 use Rattle.std.specs.Int.{int_max}
-use Rattle.mill_model.specs.Sets.{holds, different}
+use Rattle.mill_model.specs.Sets.{different}
 use Rattle.mill_model.specs.declared.order.Order.{Order}
-use Rattle.set_minima.specs.Packs.{better, IsBest, IsTable, IsNextColour}
+use Rattle.set_minima.specs.Packs.{IsBest, IsTable}
 use Rattle.set_minima.proofs.OneColour.{layer-keep}
 use Rattle.log_checker.specs.Tables.{cell, found, IsNear, AreNear, AreLayers, let_in, IsRun}
 use Rattle.log_checker.specs.declared.items.Item.{Item}
@@ -49,19 +49,29 @@ near-layer n m at old new table w h k here other i = elim (cases_lt i at) [
   ]
 ]
 
-pub near-put : (n at : ℕ) (old new table : List ℤ) → AreNear n old → AreNear n table →
-    ((l : ℕ) → l < length table → get_or new (at + l) (pos 0) ≡ get_or table l (pos 0)) →
-    ((i : ℕ) → (i < at) ⊎ (at + length table ≤ i) → get_or new i (pos 0) ≡ get_or old i (pos 0)) →
-    AreNear n new
-near-put n at old new table h k here other i = elim (cases_lt i at) [
-  | inl b ↦ rw (other i (inl b)) (h i)
-  | inr b ↦ elim (cases_lt i (at + length table)) [
-    | inl c ↦ (let e : at + (i - at) ≡ i = omega arith in
-        let f : get_or new (at + (i - at)) (pos 0) ≡ get_or table (i - at) (pos 0) =
-        here (i - at) (omega arith) in
-        subst (λ z. IsNear n z) (sym (rw e at f)) (k (i - at)))
-    | inr c ↦ rw (other i (inr c)) (h i)
-  ]
+-- one layer more of a near table
+pub near-put : (n t : ℕ) (old new table : List ℤ) → AreNear n table →
+    ((i : ℕ) → i < t * length table → IsNear n (get_or old i (pos 0))) →
+    ((l : ℕ) → l < length table →
+    get_or new (t * length table + l) (pos 0) ≡ get_or table l (pos 0)) →
+    ((i : ℕ) → (i < t * length table) ⊎ (t * length table + length table ≤ i) →
+    get_or new i (pos 0) ≡ get_or old i (pos 0)) →
+    (i : ℕ) → i < suc t * length table → IsNear n (get_or new i (pos 0))
+near-put n t old new table k h here other i b = elim (cases_lt i (t * length table)) [
+  | inl c ↦ rw (other i (inl c)) (h i c)
+  | inr c ↦ (let l = i - t * length table in
+      let e : t * length table + l ≡ i = omega arith in
+      let f : get_or new (t * length table + l) (pos 0) ≡ get_or table l (pos 0) =
+      here l (omega arith) in
+      subst (λ z. IsNear n z) (sym (rw e at f)) (k l))
+]
+
+-- all layers
+pub near-all : (n : ℕ) (tables : List ℤ) →
+    ((i : ℕ) → i < length tables → IsNear n (get_or tables i (pos 0))) → AreNear n tables
+near-all n tables h i = elim (cases_lt i (length tables)) [
+  | inl b ↦ h i b
+  | inr b ↦ rw (get_or_past tables i (pos 0) b) (near-zero n)
 ]
 
 -- One table in more and more layers.

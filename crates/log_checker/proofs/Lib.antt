@@ -14,6 +14,7 @@ pub mod RankLemmas
 pub mod TreeLemmas
 pub mod LossLemmas
 pub mod LiveLemmas
+pub mod Lightest
 pub mod Named
 pub mod AgendaLemmas
 pub mod Parts

@@ -1,6 +1,6 @@
 -- Live keys from what is seen of groups.
 use Rattle.std.proofs.Common.{ℕ, suc, ◌+◌, ◌≡◌, Bool, true, false, cond, ◌&&◌, ◌||◌, List, [], ◌∷◌}
-use Rattle.std.proofs.Common.{◌++◌, map, filter, length, drop, get_or, eqb, leb, eq-eqb, refl, sym}
+use Rattle.std.proofs.Common.{◌++◌, map, filter, length, drop, get_or, eqb, eq-eqb, refl, sym}
 use Rattle.std.proofs.Common.{ap, ap₂, ◌∙◌, arith}
 use Rattle.std.specs.List.{list_all}
 use Rattle.std.proofs.lemmas.List.Elements.{filter-append}
@@ -127,41 +127,26 @@ key-is mill ranked first second q r a b e =
     (keyed mill ranked (length q) r)) ∙ ap (λ k. same_times same_group
     (keyed mill ranked (length q) q) (keyed mill ranked k r)) e
 
--- the dead loss of a path
+-- the dead loss of a path of length k
 pub dead-is : (mill : Mill) (charge : ℕ → ℕ) (ranked : List Order) (groups : List Seen)
-    (path : List ℕ) → AreGroups groups path ranked →
-    total (length groups) (λ g. cond (lives mill (drop (length path) ranked)
-    (get_or groups g nothing_seen)) 0 (charge (get_or groups g nothing_seen).load)) ≡ dead_loss mill
-    charge ranked path
-dead-is mill charge ranked groups path it =
-    rw it.count (total-cong (next_new path) (λ g. cond (lives mill (drop (length path) ranked)
+    (path : List ℕ) (k : ℕ) → AreGroups groups path ranked → length path ≡ k →
+    total (length groups) (λ g. cond (lives mill (drop k ranked) (get_or groups g nothing_seen)) 0
+    (charge (get_or groups g nothing_seen).load)) ≡ dead_loss mill charge ranked path
+dead-is mill charge ranked groups path k it e =
+    rw (← e, it.count) (total-cong (next_new path) (λ g. cond (lives mill (drop (length path)
+    ranked)
     (get_or groups g nothing_seen)) 0 (charge (get_or groups g nothing_seen).load)) (λ g.
     cond (is_live mill (drop (length path) ranked) (slab g path ranked)) 0
     (charge (load (slab g path ranked)))) (λ g l. ap₂ (λ b n.
     cond b 0 (charge n)) (lives-is mill (drop (length path) ranked) (get_or groups g nothing_seen)
     (slab g path ranked) (it.seen g)) (it.seen g).weighs))
 
--- the two parts of what carries a path over to another
-pub carried-is : (mill : Mill) (charge : ℕ → ℕ) (ranked : List Order) (first second : List Seen)
-    (q r : List ℕ) (dead other_dead : ℕ) → AreGroups first q ranked → AreGroups second r ranked →
-    length r ≡ length q →
-    dead ≡ total (length first) (λ g. cond (lives mill (drop (length q) ranked)
-    (get_or first g nothing_seen)) 0 (charge (get_or first g nothing_seen).load)) →
-    other_dead ≡ total (length second) (λ g. cond (lives mill (drop (length q) ranked)
-    (get_or second g nothing_seen)) 0 (charge (get_or second g nothing_seen).load)) →
-    (same_live_seen mill (drop (length q) ranked) first second
-    && leb other_dead dead) ≡ (same_live_key mill ranked q r
-    && leb (dead_loss mill charge ranked r) (dead_loss mill charge ranked q))
-carried-is mill charge ranked first second q r dead other_dead a b e d o =
+-- the live keys of two paths of one length, by what is seen of their live groups
+pub key-seen : (mill : Mill) (ranked : List Order) (first second : List Seen) (q r : List ℕ) →
+    AreGroups first q ranked → AreGroups second r ranked → length r ≡ length q →
+    same_live_seen mill (drop (length q) ranked) first second ≡ same_live_key mill ranked q r
+key-seen mill ranked first second q r a b e =
     let k : eqb (length q) (length r) ≡ true = eq-eqb (length q) (length r) (sym e) in
-    let x : dead ≡ dead_loss mill charge ranked q = d ∙ dead-is mill charge ranked first q a in
-    let y : other_dead ≡ dead_loss mill charge ranked r =
-    o ∙ ap (λ n. total (length second) (λ g. cond (lives mill (drop n ranked)
-    (get_or second g nothing_seen)) 0 (charge (get_or second g nothing_seen).load))) (sym e)
-    ∙ dead-is mill charge ranked second r b in
-    let key : same_live_seen mill (drop (length q) ranked) first second ≡ same_live_key mill ranked
-    q r =
     key-is mill ranked first second q r a b (sym e)
     ∙ ap (λ t. t && same_times same_group (live_groups mill ranked q)
-    (live_groups mill ranked r)) (sym k) in
-    ap₂ (λ s t. s && t) key (ap₂ (λ s t. leb s t) y x)
+    (live_groups mill ranked r)) (sym k)

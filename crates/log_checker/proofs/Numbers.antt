@@ -1,9 +1,7 @@
 -- Numbers of the tables: which of them stand for a set, and how large they get.
-use Rattle.std.proofs.Common.{ℕ, ◌+◌, ◌<◌, ◌≤◌, ◌≡◌, ◌⊎◌, Bool, true, false, cond, List, length}
-use Rattle.std.proofs.Common.{get_or}
-use Rattle.std.proofs.Common.{ℤ, pos, neg_ℤ, ◌-ℤ◌, ◌+ℤ◌, ◌≤ℤ◌, ◌<ℤ◌, int_lt, Option, Some, None}
-use Rattle.std.proofs.Common.{refl, sym}
-use Rattle.std.proofs.Common.{ap, ◌∙◌, arith, inl, inr, negsuc, SFits, w64}
+use Rattle.std.proofs.Common.{ℕ, ◌+◌, ◌≤◌, ◌≡◌, ◌⊎◌, true, false}
+use Rattle.std.proofs.Common.{ℤ, pos, neg_ℤ, ◌-ℤ◌, ◌+ℤ◌, ◌≤ℤ◌, ◌<ℤ◌, int_lt, Some, None}
+use Rattle.std.proofs.Common.{ap, ◌∙◌, arith, inl, inr, negsuc, SFits, w64, to_z, of_z, to_z-of_z}
 use Rattle.std.proofs.lemmas.Int.{ints}
 use Rattle.std.specs.Int.{int_max}
 use Rattle.mill_model.proofs.Different.{either}
@@ -107,3 +105,14 @@ pub fits-64 : (z : ℤ) → neg_ℤ (pos 9000000000000000000) ≤ℤ z → z ≤
     SFits w64 z
 fits-64 (pos n) a b = record { sfits = omega (arith, ints) }
 fits-64 (negsuc n) a b = record { sfits = omega (arith, ints) }
+
+-- a near number with the other sign, in 64 bits
+pub turned : (x : ℤ) → IsNear 576460752303423488 x →
+    to_z w64 (of_z w64 (pos 0 -ℤ to_z w64 (of_z w64 x))) ≡ neg_ℤ x
+turned x h =
+    let n = near-fits x (near-wider 576460752303423488 1152921504606846976 x (omega arith) h) in
+    let f : SFits w64 x =
+    fits-64 x (omega (arith, ints, n.0, n.1)) (omega (arith, ints, n.0, n.1)) in
+    let g : SFits w64 (pos 0 -ℤ x) =
+    fits-64 (pos 0 -ℤ x) (omega (arith, ints, n.0, n.1)) (omega (arith, ints, n.0, n.1)) in
+    simp to_z-of_z (omega (arith, ints))

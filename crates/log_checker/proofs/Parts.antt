@@ -1,9 +1,9 @@
 -- Paths that part: they differ at a place, the first by the smaller number.
 use Rattle.std.proofs.Common.{ℕ, zero, suc, ◌<◌, ◌≡◌, ◌⊎◌, Bool, true, false, cond, ◌&&◌, ◌||◌}
 use Rattle.std.proofs.Common.{List, []}
-use Rattle.std.proofs.Common.{◌∷◌, ◌++◌, map, filter, eqb, ltb, refl, sym, ap, ◌∙◌, subst, arith}
+use Rattle.std.proofs.Common.{◌∷◌, ◌++◌, map, filter, eqb, ltb, refl, ap, arith}
 use Rattle.std.proofs.Common.{inl}
-use Rattle.std.proofs.Common.{inr, eqb-true, eq-eqb, ltb-true, lt-ltb, le-ltb}
+use Rattle.std.proofs.Common.{inr, eqb-true, ltb-true}
 use Rattle.mill_model.specs.Sets.{below}
 use Rattle.mill_laws.proofs.Lists.{and-left, and-right, Among, below-lt}
 use Rattle.mill_model.proofs.Different.{either}

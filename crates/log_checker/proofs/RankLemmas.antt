@@ -3,10 +3,8 @@ use Rattle.std.proofs.Common.{ℕ, suc, ◌+◌, ◌-◌, ◌<◌, ◌≤◌, �
 use Rattle.std.proofs.Common.{List, [], ◌∷◌, map, length, get_or, refl}
 use Rattle.std.proofs.Common.{sym, ap, ap₂, ◌∙◌, arith, inl, inr}
 use Rattle.std.proofs.lemmas.Bool.Decides.{nat_tests}
-use Rattle.std.specs.List.{sum_by, All}
+use Rattle.std.specs.List.{All}
 use Rattle.std.specs.List.Sorted.{IsPermutation, IsNonDecreasingBy}
-use Rattle.std.proofs.lemmas.List.Sorted.{sum_by-IsPermutation}
-use Rattle.std.proofs.lemmas.List.Sums.{sum_by-cons}
 use Rattle.mill_model.specs.Instance.{IsOrder}
 use Rattle.mill_model.specs.Sets.{times}
 use Rattle.mill_model.specs.Rank.{Placed, is_before, same_order, put_in_rank, rank_from}

@@ -1,35 +1,36 @@
 -- The slacks of the groups of a path: one for the live groups of one key, and what a load is
 -- charged
 -- for the others.
-use Rattle.std.proofs.Common.{ℕ, zero, suc, ◌+◌, ◌*◌, ◌<◌, ◌≤◌, ◌≡◌, ◌⊎◌, Bool, true, false, cond}
+use Rattle.std.proofs.Common.{ℕ, zero, suc, ◌+◌, ◌*◌, ◌<◌, ◌≤◌, ◌≡◌, ◌⊎◌, Bool, true, false}
 use Rattle.std.proofs.Common.{List, [], ◌∷◌}
-use Rattle.std.proofs.Common.{map, filter, drop, length, get_or, set, eqb, eq-eqb, eqb-true, refl}
+use Rattle.std.proofs.Common.{map, drop, length, get_or, set, eqb, eq-eqb, eqb-true, refl}
 use Rattle.std.proofs.Common.{sym, ap, ◌∙◌, subst}
-use Rattle.std.proofs.Common.{arith, inl, inr, All, ℤ, pos, slice_index, ◌+ℤ◌, ◌++◌, take}
-use Rattle.std.specs.List.Sorted.{IsPermutation}
+use Rattle.std.proofs.Common.{arith, inl, inr, All, ℤ, pos, slice_index, ◌+ℤ◌, ◌-◌, ◌++◌, take}
+use Rattle.std.proofs.Common.{◌&&◌, ltb, ltb-true}
 use Rattle.std.proofs.lemmas.Bool.Decides.{nat_tests}
 use Rattle.std.proofs.lemmas.Int.{ints}
 use Rattle.std.proofs.lemmas.List.{take_all, drop_all, drop_more, get_or-set_same, get_or-set_other}
-use Rattle.std.proofs.lemmas.List.Sorted.{All-permutation, IsPermutation-map, length_permutation}
+use Rattle.std.proofs.lemmas.List.{get_or_default}
+use Rattle.std.proofs.lemmas.List.Sorted.{All-permutation, IsPermutation-map}
+use Rattle.mill_model.specs.Instance.{IsOrder}
 use Rattle.mill_model.specs.Plan.{slab}
 use Rattle.mill_model.specs.Prices.{least_slack}
 use Rattle.mill_model.specs.Sets.{below, times, int_sum, int_total}
-use Rattle.mill_model.specs.Slab.{Mill, load}
+use Rattle.mill_model.specs.Slab.{Mill}
 use Rattle.mill_model.specs.LiveKey.{is_live, seen_from}
-use Rattle.mill_model.specs.Tree.{next_new}
 use Rattle.mill_model.specs.declared.order.Order.{Order}
 use Rattle.mill_model.proofs.Different.{either}
 use Rattle.mill_laws.proofs.Lists.{Among, Among-filter, Among-unfilter, among-below, below-lt}
-use Rattle.mill_laws.proofs.Lists.{times-pos, times-among}
+use Rattle.mill_laws.proofs.Lists.{times-pos, times-among, and-left, and-right}
 use Rattle.mill_laws.proofs.Mated.{same_group-eq}
 use Rattle.set_minima.proofs.Groups.{same-least, dead-least}
 use Rattle.log_checker.specs.Groups.{Seen, IsSeen, AreGroups, nothing_seen}
-use Rattle.log_checker.specs.Live.{lives, same_seen, live_of}
-use Rattle.log_checker.specs.Keys.{IsKey, AreSorted, key_in, group_in, same_key}
+use Rattle.log_checker.specs.Live.{lives, live_of}
+use Rattle.log_checker.specs.Keys.{IsKey, AreSorted, group_in, same_key}
 use Rattle.log_checker.specs.Slacks.{slack_of, no_live}
 use Rattle.log_checker.specs.declared.key.Key.{Key}
 use Rattle.log_checker.specs.declared.key.LiveGroup.{LiveGroup}
-use Rattle.log_checker.proofs.KeyLemmas.{key-same}
+use Rattle.log_checker.proofs.KeyLemmas.{key-same, low-from}
 use Rattle.log_checker.proofs.LiveLemmas.{lives-is, same-is}
 use Rattle.log_checker.proofs.Sorted.{times-moved}
 
@@ -59,10 +60,12 @@ map-at [] i h = absurd (omega arith)
 map-at (l ∷ live) zero h = inl refl
 map-at (l ∷ live) (suc i) h = inr (map-at live i (omega arith))
 
-pub sorted-inside : (mill : Mill) (rest : List Order) (groups : List Seen)
+-- each of the live groups in order is a live group
+sorted-lives : (mill : Mill) (rest : List Order) (groups : List Seen)
     (sorted : List LiveGroup) (i : ℕ) → AreSorted mill rest groups sorted → i < length sorted →
-    (get_or sorted i no_live).group < length groups
-sorted-inside mill rest groups sorted i it h =
+    ((get_or sorted i no_live).group < length groups)
+    × (lives mill rest (get_or groups (get_or sorted i no_live).group nothing_seen) ≡ true)
+sorted-lives mill rest groups sorted i it h =
     let g = (get_or sorted i no_live).group in
     let a : 0 < times eqb g (map group_in sorted) =
     times-pos eqb (λ x. eq-eqb x x refl) g (map group_in sorted) (map-at sorted i h) in
@@ -70,8 +73,25 @@ sorted-inside mill rest groups sorted i it h =
     among-sorted mill rest groups sorted g it in
     let m : Among g (live_of mill rest groups) =
     times-among eqb eqb-is g (live_of mill rest groups) (omega arith) in
-    below-lt g (length groups) (Among-unfilter (λ g. lives mill rest (get_or groups g nothing_seen))
-    g (below (length groups)) m).0
+    let u = Among-unfilter (λ g. lives mill rest (get_or groups g nothing_seen)) g
+    (below (length groups)) m in
+    (below-lt g (length groups) u.0, u.1)
+
+-- the live group of a place in order, as an element
+pub live-at : (mill : Mill) (rest : List Order) (groups : List Seen) (sorted : List LiveGroup)
+    (i : ℕ) (live : LiveGroup) → AreSorted mill rest groups sorted → i < length sorted →
+    live ≡ get_or sorted i live →
+    (live.group < length groups)
+    × (lives mill rest (get_or groups live.group nothing_seen) ≡ true)
+    × (live ≡ get_or sorted i no_live)
+live-at mill rest groups sorted i live it h e =
+    let at : live ≡ get_or sorted i no_live = e ∙ get_or_default sorted i live no_live h in
+    let l = sorted-lives mill rest groups sorted i it h in (
+      subst (λ (l : LiveGroup). l.group < length groups) (sym at) l.0,
+      subst (λ (l : LiveGroup). lives mill rest (get_or groups l.group nothing_seen) ≡ true)
+          (sym at) l.1,
+      at,
+    )
 
 pub sorted-keys : (mill : Mill) (rest : List Order) (groups : List Seen)
     (sorted : List LiveGroup) (i : ℕ) → AreSorted mill rest groups sorted → i < length sorted →
@@ -80,6 +100,29 @@ pub sorted-keys : (mill : Mill) (rest : List Order) (groups : List Seen)
 sorted-keys mill rest groups sorted i it h =
     All-permutation (λ l. IsKey rest (get_or groups l.group nothing_seen) l.key) it.plain sorted
     it.moved it.live.keys i no_live h
+
+-- a group like the last one has its slack
+pub like-slack : (mill : Mill) (charges : List ℕ) (ranked : List Order) (path : List ℕ)
+    (prices : List ℤ) (groups : List Seen) (sorted : List LiveGroup) (i : ℕ) (last : ℤ) →
+    All IsOrder ranked → AreGroups groups path ranked →
+    AreSorted mill (drop (length path) ranked) groups sorted → i < length sorted →
+    ((j : ℕ) → j + 1 ≡ i →
+    last ≡ slack_of mill charges ranked path prices (get_or sorted j no_live).group) →
+    (ltb 0 i && same_key (get_or sorted i no_live).key (get_or sorted (i - 1) no_live).key) ≡ true →
+    last ≡ slack_of mill charges ranked path prices (get_or sorted i no_live).group
+like-slack mill charges ranked path prices groups sorted i last orders it s here slack like =
+    let rest = drop (length path) ranked in
+    let g = (get_or sorted i no_live).group in
+    let h = (get_or sorted (i - 1) no_live).group in
+    let some : 0 < i = ltb-true 0 i (and-left (ltb 0 i) _ like) in
+    let e = key-slack mill (λ l. slice_index charges l) rest prices (get_or groups g nothing_seen)
+    (get_or groups h nothing_seen) (slab g path ranked) (slab h path ranked)
+    (get_or sorted i no_live).key (get_or sorted (i - 1) no_live).key
+    (low-from (length path) ranked orders) (it.seen g) (it.seen h)
+    (sorted-keys mill rest groups sorted i s here)
+    (sorted-keys mill rest groups sorted (i - 1) s (omega (arith, some, here)))
+    (and-right (ltb 0 i) _ like) in
+    slack (i - 1) (omega (arith, some)) ∙ sym e
 
 -- a group is charged what its load is, or is among the live ones in order
 pub charged-first : (mill : Mill) (charges : List ℕ) (ranked : List Order) (path : List ℕ)

@@ -199,13 +199,13 @@ end-refutes task bound log i waiting up j l e =
     subst (λ v. IsVerdict task bound log v) a (pass-verdict task bound log up)
 
 pub end-missing : (task : Task) (bound : ℕ) (log : List Entry) (i : ℕ) (waiting rest : List Wanted)
-    (w : Wanted) (path : List ℕ) → rises (recorded log) ≡ true →
+    (w : Wanted) → rises (recorded log) ≡ true →
     verdict_from task bound log (to_come log waiting) (drop i log) ≡ verdict_from task bound log
-    ([] ∷ []) log → length log ≤ i → waiting ≡ rest ++ w ∷ [] → path ≡ wanted_path log w →
-    IsVerdict task bound log (verdicts.Missing path)
-end-missing task bound log i waiting rest w path up j l e n =
-    let a : verdict_from task bound log ([] ∷ []) log ≡ verdicts.Missing path =
-    sym j ∙ rw (come-push log waiting rest w e, drop_all i log l, n) refl in
+    ([] ∷ []) log → length log ≤ i → waiting ≡ rest ++ w ∷ [] →
+    IsVerdict task bound log (verdicts.Missing (wanted_path log w))
+end-missing task bound log i waiting rest w up j l e =
+    let a : verdict_from task bound log ([] ∷ []) log ≡ verdicts.Missing (wanted_path log w) =
+    sym j ∙ rw (come-push log waiting rest w e, drop_all i log l) refl in
     subst (λ v. IsVerdict task bound log v) a (pass-verdict task bound log up)
 
 pub found-verdict : (task : Task) (bound : ℕ) (log : List Entry) (v : LogVerdict) →

@@ -1,17 +1,17 @@
 -- The orders as items, and what a sort by colour leaves of them.
-use Rattle.std.proofs.Common.{ℕ, zero, suc, ◌+◌, ◌<◌, ◌≤◌, ◌≡◌, ◌≢◌, Bool, true, false, List, []}
+use Rattle.std.proofs.Common.{ℕ, zero, suc, ◌+◌, ◌<◌, ◌≡◌, Bool, false, List, []}
 use Rattle.std.proofs.Common.{◌∷◌}
-use Rattle.std.proofs.Common.{◌++◌, length, take, get_or, eqb, eqb-true, eq-eqb, ne_eqb, refl, sym}
+use Rattle.std.proofs.Common.{◌++◌, length, take, get_or, eqb, ne_eqb, refl, sym}
 use Rattle.std.proofs.Common.{ap}
 use Rattle.std.proofs.Common.{◌∙◌, subst, arith}
-use Rattle.std.specs.List.{All, Contains, AllByRecursion, IsDistinct}
+use Rattle.std.specs.List.{All, AllByRecursion, IsDistinct}
 use Rattle.std.specs.List.Sorted.{IsPermutation, IsNonDecreasingBy}
 use Rattle.std.proofs.lemmas.List.Sorted.{length_permutation, All-permutation}
 use Rattle.std.proofs.lemmas.List.Sorted.{Contains-permutation}
 use Rattle.std.proofs.lemmas.Map.Keys.{IsDistinct-cons, apart_from_distinct}
 use Rattle.std.proofs.lemmas.Map.Keys.{IsDistinct-IsPermutation}
 use Rattle.mill_model.specs.declared.order.Order.{Order}
-use Rattle.set_minima.specs.Packs.{colour_at, nobody}
+use Rattle.set_minima.specs.Packs.{colour_at}
 use Rattle.log_checker.specs.Tables.{no_item, item_at, AreItems}
 use Rattle.log_checker.specs.declared.items.Item.{Item}
 

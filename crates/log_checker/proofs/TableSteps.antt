@@ -1,14 +1,13 @@
 -- One entry of a table, and one order in a whole table.
-use Rattle.std.proofs.Common.{ℕ, suc, ◌+◌, ◌-◌, ◌<◌, ◌≤◌, ◌≡◌, ◌≢◌, ◌⊎◌, Bool, true, false, cond}
+use Rattle.std.proofs.Common.{ℕ, ◌-◌, ◌<◌, ◌≤◌, ◌≡◌, ◌≢◌, true, false, cond}
 use Rattle.std.proofs.Common.{List}
-use Rattle.std.proofs.Common.{length, get_or, set, ℤ, pos, Option, Some, None, leb, le-leb, refl}
+use Rattle.std.proofs.Common.{length, get_or, set, ℤ, pos, Option, leb, le-leb, refl}
 use Rattle.std.proofs.Common.{sym, ap}
-use Rattle.std.proofs.Common.{◌∙◌, arith, inl, inr, subst, eqb, eqb-true, eq-eqb}
+use Rattle.std.proofs.Common.{◌∙◌, arith, inl, inr, eqb, eqb-true, eq-eqb}
 use Rattle.std.proofs.lemmas.List.{get_or-set_same, get_or-set_other, length-set}
 use Rattle.mill_model.proofs.Different.{either}
 use Rattle.set_minima.specs.Packs.{better, with_price}
 use Rattle.log_checker.specs.Tables.{cell, found, IsNear, AreNear}
-use Rattle.log_checker.proofs.Numbers.{near-wider}
 
 -- what a table has for a load once an order is let in
 abbrev pub raised : ℕ → ℤ → List ℤ → ℕ → Option ℤ

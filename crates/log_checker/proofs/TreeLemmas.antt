@@ -1,13 +1,13 @@
 -- Classes and last numbers by place.
 use Rattle.std.proofs.Common.{take, drop, max, sym, ap, ◌∙◌, ℕ, zero, suc, ◌+◌, ◌-◌, ◌<◌, ◌≤◌, ◌≡◌}
-use Rattle.std.proofs.Common.{Bool, true, false, not, List, [], ◌∷◌, ◌++◌, length, get_or, refl}
+use Rattle.std.proofs.Common.{true, false, not, List, [], ◌∷◌, ◌++◌, length, get_or, refl}
 use Rattle.std.proofs.Common.{arith, leb, le-leb, ◌&&◌, ◌||◌}
 use Rattle.mill_model.specs.Slab.{Mill, legal}
 use Rattle.mill_model.specs.Plan.{slab}
-use Rattle.log_checker.specs.Groups.{Seen, joined, may_be, nothing_seen, AreGroups}
+use Rattle.log_checker.specs.Groups.{Seen, joined, may_be, nothing_seen}
 use Rattle.log_checker.proofs.GroupLemmas.{slab-next, seen-push, may_be-legal}
 use Rattle.log_checker.specs.Groups.{IsSeen}
-use Rattle.std.proofs.lemmas.List.{drop_more, length-take-le}
+use Rattle.std.proofs.lemmas.List.{drop_more}
 use Rattle.mill_laws.proofs.Lists.{next_new-append}
 use Rattle.mill_model.specs.Rank.{starts_class_in, same_order}
 use Rattle.mill_model.specs.Tree.{last_number, next_new, may_go_on, goes_on}
@@ -55,14 +55,6 @@ goes-on-from mill groups ranked path g d it h n =
     (get_or ranked (length path) d) it)) in
     rw (a, b) refl
 
-pub goes-on-is : (mill : Mill) (groups : List Seen) (ranked : List Order) (path : List ℕ) (g : ℕ)
-    (d : Order) → AreGroups groups path ranked → length path < length ranked → g ≤ next_new path →
-    may_go_on mill ranked path g ≡ (may_be mill (joined (get_or groups g nothing_seen)
-    (get_or ranked (length path) d)) && (starts_class_in (length path) ranked
-    || leb (last_number path) g))
-goes-on-is mill groups ranked path g d it h n =
-    goes-on-from mill groups ranked path g d (it.seen g) h n
-
 pub take-push : (k : ℕ) (path : List ℕ) → k < length path → take (k + 1) path ≡ take k path
     ++ get_or path k 0 ∷ []
 take-push k path h = let e : k + 1 ≡ suc k = omega arith in rw e (go k path h)
@@ -92,19 +84,3 @@ pub next_new-push : (k : ℕ) (path : List ℕ) → k < length path →
 next_new-push k path h =
     ap next_new (take-push k path h) ∙ next_new-append (take k path) (get_or path k 0 ∷ [])
     ∙ (let e : max (suc (get_or path k 0)) 0 ≡ get_or path k 0 + 1 = omega arith in rw e refl)
-
--- whether the first numbers of a path may go on with the next one, from the parts of the test
-pub goes-on-at : (mill : Mill) (groups : List Seen) (ranked : List Order) (path : List ℕ) (k g : ℕ)
-    (d : Order) (legal_now free rises : Bool) → IsSeen (get_or groups g nothing_seen)
-    (slab g (take k path) ranked) → k < length path → length path ≤ length ranked →
-    g ≤ next_new (take k path) → legal_now ≡ may_be mill
-    (joined (get_or groups g nothing_seen) (get_or ranked k d)) → free ≡ starts_class_in k ranked →
-    rises ≡ leb (last_number (take k path)) g →
-    (legal_now && (free || rises)) ≡ may_go_on mill ranked (take k path) g
-goes-on-at mill groups ranked path k g d legal_now free rises it h w n a b c =
-    let e : length (take k path) ≡ k = length-take-le k path (omega arith) in
-    let f : may_go_on mill ranked (take k path) g ≡ (may_be mill
-    (joined (get_or groups g nothing_seen) (get_or ranked (length (take k path)) d))
-    && (starts_class_in (length (take k path)) ranked || leb (last_number (take k path)) g)) =
-    goes-on-from mill groups ranked (take k path) g d it (omega arith) n in
-    rw (a, b, c) (sym (f ∙ rw e refl))

@@ -7,3 +7,4 @@ pub mod Verdict
 pub mod Tables
 pub mod Keys
 pub mod Slacks
+pub mod Stocked

@@ -1,6 +1,7 @@
 -- Live groups by what is seen of them.
-use Rattle.std.specs.Prelude.{ℕ, Bool, ◌&&◌, List, map, filter, length, eqb, get_or}
-use Rattle.std.specs.List.{list_any, list_all}
+use Rattle.std.specs.Prelude.{ℕ, ◌≡◌, ◌≤◌, Bool, true, false, ◌&&◌, List, map, filter, length, eqb}
+use Rattle.std.specs.Prelude.{get_or}
+use Rattle.std.specs.List.{All, Contains, list_any, list_all}
 use Rattle.mill_model.specs.Sets.{holds, below, times}
 use Rattle.mill_model.specs.Slab.{Mill}
 use Rattle.mill_model.specs.LiveKey.{same_marks}
@@ -9,6 +10,11 @@ use Rattle.log_checker.specs.Groups.{Seen, joined, may_be, nothing_seen}
 
 abbrev pub lives : Mill → List Order → Seen → Bool
 lives mill rest seen = list_any (λ order. may_be mill (joined seen order)) rest
+
+-- whether an order of a colour may join a group
+abbrev pub takes_of : Mill → List Order → Seen → ℕ → Bool
+takes_of mill rest seen colour =
+    list_any (λ order. eqb colour order.colour && may_be mill (joined seen order)) rest
 
 abbrev pub marks : List Order → Seen → List Bool
 marks rest seen = map (λ order. holds order.colour seen.colours) rest
@@ -39,3 +45,13 @@ same_live_seen mill rest first second =
     (picked first (live_of mill rest first)) (picked second (live_of mill rest second))
     && each_as_often rest (picked second (live_of mill rest second))
     (picked first (live_of mill rest first)) (picked second (live_of mill rest second))
+
+-- the lightest of the orders that pass a test
+pub record IsLightest (test : Order → Bool) (orders : List Order) (order : Order) : Type 0 where
+  pub passes : test order ≡ true
+  pub there : Contains orders order
+  pub least : All (λ other. test other ≡ true → order.weight ≤ other.weight) orders
+
+-- no order passes a test
+abbrev pub AreNone : (Order → Bool) → List Order → Type 0
+AreNone test orders = All (λ order. test order ≡ false) orders

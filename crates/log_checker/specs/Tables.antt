@@ -1,8 +1,8 @@
 -- The tables of the checker's knapsack: the best prices of sets of the later orders by load, in
 -- layers by the number of colours. A very low number stands where there is no set.
-use Rattle.std.specs.Prelude.{ℕ, ◌+◌, ◌*◌, ◌<◌, ◌≤◌, ◌≡◌, Bool, true, false, ◌&&◌, ◌||◌, cond, eqb}
+use Rattle.std.specs.Prelude.{ℕ, ◌+◌, ◌*◌, ◌<◌, ◌≤◌, ◌≡◌, Bool, false, ◌&&◌, ◌||◌, cond, eqb}
 use Rattle.std.specs.Prelude.{List}
-use Rattle.std.specs.Prelude.{length, map, take, ℤ, pos, neg_ℤ, ◌-ℤ◌, ◌+ℤ◌, ◌≤ℤ◌, int_lt, Option}
+use Rattle.std.specs.Prelude.{length, take, ℤ, pos, neg_ℤ, ◌-ℤ◌, ◌+ℤ◌, ◌≤ℤ◌, int_lt, Option}
 use Rattle.std.specs.Prelude.{Some}
 use Rattle.std.specs.Prelude.{None, slice_index_or, ◌⊎◌}
 use Rattle.std.specs.List.{list_any}

@@ -28,22 +28,27 @@ use std::alloc::Global;
 use std::cmp::Ordering;
 
 /// The path that is named.
-fn path_of(alloc: Global, log: &[Entry], wanted: Wanted) -> Result<Vec<u16>, OutOfMemory>
+fn path_of(alloc: Global, log: &[Entry], wanted: Wanted) -> Result<Path, OutOfMemory>
     requires { is_within (length log.now) wanted ≡ true }
-    ensures { IfOk result (λ path. path.items ≡ wanted_path log.now wanted) }
+    ensures { IfOk result (λ path. path ≡ wanted_path log.now wanted) }
 {
     match wanted {
-        Wanted::Root => Ok(Vec::new(alloc)),
-        Wanted::Child { parent, group } => {
-            let mut path = log[parent].path.numbers().to_vec(alloc)?;
-            path.push(group)?;
-            Ok(path)
-        }
+        Wanted::Root => Ok(Path::root(alloc)),
+        Wanted::Child { parent, group } => log[parent].path.child(group),
     }
 }
 
+/// That a path has no record.
+fn missing(alloc: Global, log: &[Entry], wanted: Wanted) -> Result<LogVerdict, OutOfMemory>
+    requires { is_within (length log.now) wanted ≡ true }
+    ensures { IfOk result (λ v. v ≡ Missing (wanted_path log.now wanted)) }
+{
+    let path = path_of(alloc, log, wanted)?;
+    Ok(LogVerdict::Missing { path })
+}
+
 /// What is wrong where a record stands at another path than the next one that is wanted.
-fn misplaced(alloc: Global, path: &[u16], entry: &Entry) -> Result<Option<LogVerdict>, OutOfMemory>
+fn misplaced(path: &Path, entry: &Entry) -> Result<Option<LogVerdict>, OutOfMemory>
     ensures apart { IfOk result (λ found. IfSome found (λ v.
         (same_list path.now entry.now.path ≡ false)
         × (v ≡ cond (comes_before path.now entry.now.path) (Missing path.now)
@@ -51,10 +56,8 @@ fn misplaced(alloc: Global, path: &[u16], entry: &Entry) -> Result<Option<LogVer
     ensures same { IfOk result (λ found.
         IfNone found (same_list path.now entry.now.path ≡ true)) }
 {
-    match compare(path, entry.path.numbers()) {
-        Ordering::Less => Ok(Some(LogVerdict::Missing {
-            path: Path::from_list(path.to_vec(alloc)?),
-        })),
+    match compare(path.numbers(), entry.path.numbers()) {
+        Ordering::Less => Ok(Some(LogVerdict::Missing { path: path.copy()? })),
         Ordering::Greater => Ok(Some(LogVerdict::Stray {
             path: entry.path.copy()?,
         })),
@@ -114,15 +117,13 @@ fn step(
         return Ok(Some(LogVerdict::Stray { path }));
     };
     let path = path_of(alloc, log, wanted)?;
-    match misplaced(alloc, &path, entry)? {
+    match misplaced(&path, entry)? {
         Some(verdict) => return Ok(Some(verdict)),
         None => {}
     }
     let good = holds_up(alloc, judge, loss, log, entry)?;
     if !good {
-        return Ok(Some(LogVerdict::Unsound {
-            path: Path::from_list(path),
-        }));
+        return Ok(Some(LogVerdict::Unsound { path }));
     }
     open(alloc, waiting, judge, entry, i)?;
     Ok(None)
@@ -148,13 +149,10 @@ fn check_by(
             None => {}
         }
     }
-    let Some(wanted) = waiting.pop() else {
-        return Ok(LogVerdict::Refutes);
-    };
-    let path = path_of(alloc, log, wanted)?;
-    Ok(LogVerdict::Missing {
-        path: Path::from_list(path),
-    })
+    match waiting.pop() {
+        Some(wanted) => missing(alloc, log, wanted),
+        None => Ok(LogVerdict::Refutes),
+    }
 }
 
 /// Judges a log by the definitions alone: whether it refutes the loss, and if not the first wrong

@@ -9,7 +9,7 @@ ghost use Rattle.log_checker.specs.Judged.{mill_by};
 
 use crate::groups::{Group, empty_groups, group_count, join_at};
 use crate::judge::Judge;
-use crate::tree::{last_number, may_join, starts_class};
+use crate::tree::may_go_on;
 use mill_model::{Closing, Entry, OutOfMemory};
 use refute_log::compare;
 use std::alloc::Global;
@@ -43,12 +43,6 @@ pub(crate) fn is_settled(log: &[Entry], path: &[u16]) -> bool
     false
 }
 
-fn first_and_one(first: bool, second: bool, third: bool) -> bool
-    ensures { result ≡ (first && (second || third)) }
-{
-    first && (second || third)
-}
-
 /// Whether the first `k` numbers of a path, of which `count` is the next new one, may go on with
 /// the next.
 fn goes_on_at(judge: &Judge, groups: &[Group], path: &[u16], k: usize, count: usize) -> bool
@@ -66,10 +60,7 @@ fn goes_on_at(judge: &Judge, groups: &[Group], path: &[u16], k: usize, count: us
     if count < g as usize {
         return false;
     }
-    let legal = may_join(judge, groups, g as usize, judge.order(k));
-    let free = starts_class(judge, k);
-    let rises = last_number(&path[..k]) <= g;
-    first_and_one(legal, free, rises)
+    may_go_on(judge, groups, &path[..k], g)
 }
 
 fn goes_through(judge: &Judge, groups: &mut [Group], path: &[u16]) -> Result<bool, OutOfMemory>

@@ -7,6 +7,7 @@ ghost use Rattle.log_checker.specs.Judged.{mill_by};
 
 use crate::judge::Judge;
 use mill_model::{Order, OutOfMemory};
+use smallvec::SmallVec;
 use std::alloc::Global;
 use std::marker::Model;
 
@@ -23,10 +24,10 @@ pub(crate) fn has(colours: &[u16], colour: u16) -> bool
 }
 
 /// Adds a colour that isn't there yet.
-fn note_colour(colours: &mut Vec<u16>, colour: u16) -> Result<(), OutOfMemory>
+fn note_colour(colours: &mut SmallVec<u16, 8>, colour: u16) -> Result<(), OutOfMemory>
     ensures { OnOk result (colours.new.items ≡ with_colour colour colours.old.items) }
 {
-    if !has(colours, colour) {
+    if !has(colours.as_slice(), colour) {
         colours.push(colour)?;
     }
     Ok(())
@@ -44,11 +45,12 @@ fn count_with(colours: &[u16], colour: u16) -> usize
     }
 }
 
-/// What a group of a path weighs, and each of its colours once.
+/// What a group of a path weighs, and each of its colours once. Those of a legal group stand
+/// inline.
 #[derive(Drop)]
 pub(crate) struct Group {
     load: u64,
-    colours: Vec<u16>,
+    colours: SmallVec<u16, 8>,
 }
 
 impl Model for Group {
@@ -66,7 +68,7 @@ impl Group {
     {
         Group {
             load: 0,
-            colours: Vec::new(alloc),
+            colours: SmallVec::new(alloc),
         }
     }
 
@@ -79,7 +81,7 @@ impl Group {
     pub(crate) fn colours(&self) -> &[u16]
         ensures { result.now ≡ self.now.colours }
     {
-        &self.colours
+        self.colours.as_slice()
     }
 
     /// Adds an order.
@@ -98,7 +100,7 @@ impl Group {
         ensures { result ≡ may_be (mill_by judge.now) (joined self.now order) }
     {
         self.load + order.weight as u64 <= judge.largest as u64
-            && count_with(&self.colours, order.colour) <= judge.most_colours as usize
+            && count_with(self.colours.as_slice(), order.colour) <= judge.most_colours as usize
     }
 }
 
@@ -130,7 +132,8 @@ pub(crate) fn join_at(groups: &mut [Group], number: usize, order: Order) -> Resu
     requires within { number < length groups.old }
     requires room { (slice_index_or groups.old number nothing_seen).load + order.weight < 2 ^ 64 }
     ensures { OnOk result (groups.new ≡
-        slice_set groups.old number (joined (slice_index_or groups.old number nothing_seen) order)) }
+        slice_set groups.old number
+        (joined (slice_index_or groups.old number nothing_seen) order)) }
 {
     groups[number].join(order)
 }

@@ -1,6 +1,8 @@
-ghost use Rattle.std.specs.Prelude.{◌≡◌, ◌<◌, ◌≤◌, ◌+◌, length, slice_index, slice_index_or, drop};
+ghost use Rattle.std.specs.Prelude.{◌≡◌, ◌<◌, ◌≤◌, ◌+◌, true, length, slice_index, slice_index_or};
+ghost use Rattle.std.specs.Prelude.{drop, eqb, IfSome, IfNone, []};
 ghost use Rattle.mill_model.specs.LiveKey.{has_colour};
 ghost use Rattle.log_checker.specs.Groups.{no_order};
+ghost use Rattle.log_checker.specs.Live.{IsLightest, AreNone};
 ghost use Rattle.log_checker.specs.Setting.{IsSetting, AreEnds};
 
 use mill_model::Order;
@@ -44,6 +46,34 @@ impl Judge {
             return false;
         }
         rank < self.last[colour as usize]
+    }
+
+    /// The lightest order from a rank on.
+    pub(crate) fn lightest(&self, rank: usize) -> Option<Order>
+        ensures some { IfSome result
+            (IsLightest (λ order. true) (drop rank self.now.ranked.items)) }
+        ensures light { IfSome result (λ order. order.weight ≤ 1000000) }
+        ensures none { IfNone result
+            (AreNone (λ order. true) (drop rank self.now.ranked.items)) }
+    {
+        if self.ranked.len() <= rank {
+            return None;
+        }
+        Some(self.order(self.ranked.len() - 1))
+    }
+
+    /// The lightest order of a colour from a rank on.
+    pub(crate) fn lightest_of(&self, colour: u16, rank: usize) -> Option<Order>
+        ensures some { IfSome result
+            (IsLightest (λ order. eqb colour order.colour) (drop rank self.now.ranked.items)) }
+        ensures light { IfSome result (λ order. order.weight ≤ 1000000) }
+        ensures none { IfNone result
+            (AreNone (λ order. eqb colour order.colour) (drop rank self.now.ranked.items)) }
+    {
+        if !self.comes(colour, rank) {
+            return None;
+        }
+        Some(self.order(self.last[colour as usize] - 1))
     }
 
     /// What a load is charged: nothing where no slab holds it.

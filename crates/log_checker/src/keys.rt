@@ -1,4 +1,5 @@
-ghost use Rattle.std.specs.Prelude.{◌≡◌, ◌<◌, ◌≤◌, ◌+◌, ◌*◌, ℕ, List, IfOk, OnOk, drop, length, true};
+ghost use Rattle.std.specs.Prelude.{◌≡◌, ◌<◌, ◌≤◌, ◌+◌, ◌*◌, ℕ, List, IfOk, OnOk, drop, length};
+ghost use Rattle.std.specs.Prelude.{true};
 ghost use Rattle.std.specs.Prelude.{slice_index_or, slice_set, IfSome, IfNone, false};
 ghost use Rattle.std.specs.List.Sorted.{IsPermutation, IsSortedByKey};
 ghost use Rattle.mill_model.specs.Sets.{different};
@@ -164,10 +165,12 @@ pub(crate) fn same_live(
     k: usize,
 ) -> Result<bool, OutOfMemory>
     requires rank { k ≤ length judge.now.ranked.items }
-    requires first_light { (g : ℕ) → (slice_index_or first.now g nothing_seen).load ≤ 1024 * 1000000 }
+    requires first_light { (g : ℕ) → (slice_index_or first.now g nothing_seen).load ≤ 1024 *
+        1000000 }
     requires first_once { (g : ℕ) → length (slice_index_or first.now g nothing_seen).colours
         ≡ different (slice_index_or first.now g nothing_seen).colours }
-    requires second_light { (g : ℕ) → (slice_index_or second.now g nothing_seen).load ≤ 1024 * 1000000 }
+    requires second_light { (g : ℕ) → (slice_index_or second.now g nothing_seen).load ≤ 1024 *
+        1000000 }
     requires second_once { (g : ℕ) → length (slice_index_or second.now g nothing_seen).colours
         ≡ different (slice_index_or second.now g nothing_seen).colours }
     ensures { IfOk result (λ yes. yes ≡

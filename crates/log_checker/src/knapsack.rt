@@ -1,22 +1,21 @@
 // The least slack of a group, by a knapsack over the later orders by load and colours.
 
 ghost use Rattle.std.specs.Prelude.{◌≡◌, ℕ, List, Bool, ◌+◌, ◌-◌, ◌*◌, ◌<◌, ◌≤◌, ◌^◌, All, IfOk};
-ghost use Rattle.std.specs.Prelude.{length, slice_index, slice_index_or, pos, neg_ℤ, ℤ, drop, suc};
-ghost use Rattle.std.specs.Prelude.{Some, None};
+ghost use Rattle.std.specs.Prelude.{length, slice_index, pos, neg_ℤ, ℤ, drop, suc, Some, None};
 ghost use Rattle.mill_model.specs.Sets.{different};
 ghost use Rattle.mill_model.specs.Prices.{least_slack};
 ghost use Rattle.mill_model.specs.declared.order.Order.{Order};
 ghost use Rattle.set_minima.specs.Packs.{IsTable, IsTop};
-ghost use Rattle.set_minima.specs.Joins.{gain, Packed, IsSlab, all_places};
+ghost use Rattle.set_minima.specs.Joins.{gain, Packed, Joins, IsSlab, all_places};
 ghost use Rattle.log_checker.specs.Judged.{mill_by};
-ghost use Rattle.log_checker.specs.Tables.{cell, found, AreNear, IsNear, IsSmall, AreStock};
-ghost use Rattle.log_checker.specs.Tables.{AreLayers};
+ghost use Rattle.log_checker.specs.Stocked.{HasRoom, IsStocked, AreLayersOf};
+ghost use Rattle.log_checker.specs.Tables.{cell, found, AreNear, IsNear, IsSmall};
 
-use crate::items::Item;
 use crate::judge::Judge;
 use crate::layers::{add_colours, spread_layer};
+use crate::stock::Stock;
 use crate::table::{NOTHING, add_own, best_of};
-use mill_model::{Order, OutOfMemory};
+use mill_model::OutOfMemory;
 use std::alloc::Global;
 
 /// What a charge takes from the prices of a set.
@@ -66,94 +65,127 @@ fn last_gain(tables: &[i64], at: usize, charges: &[u64], load: usize) -> i64
     best_gain(&tables[at..], charges, load)
 }
 
-/// A table for the empty set alone.
-fn empty_table(alloc: Global, width: usize) -> Result<Vec<i64>, OutOfMemory>
-    requires some { 0 < width }
-    ensures length { IfOk result (λ table. length table.items ≡ width) }
-    ensures first { IfOk result (λ table. cell table.items 0 ≡ Some (pos 0)) }
-    ensures others { IfOk result (λ table.
-        (l : ℕ) → suc l < width → cell table.items (suc l) ≡ None) }
-    ensures near { IfOk result (λ table. AreNear 0 table.items) }
+/// Makes a table that of the empty set alone.
+fn clear(table: &mut [i64])
+    requires some { 0 < length table.old }
+    ensures first { cell table.new 0 ≡ Some (pos 0) }
+    ensures others { (l : ℕ) → suc l < length table.new → cell table.new (suc l) ≡ None }
+    ensures near { AreNear 0 table.new }
 {
-    let mut table = vec![in alloc; NOTHING; width]?;
+    table.fill(NOTHING);
     table[0] = 0;
-    Ok(table)
 }
 
-/// Fills layers: layer `t` with the sets that have at most `t` colours beside the own ones.
-fn fill_layers(
-    tables: &mut [i64],
-    table: &mut [i64],
-    rest: &[Order],
-    prices: &[i64],
-    items: &[Item],
-    own: &[u16],
-    layers: usize,
-)
+/// Fills layers: layer `t` with the sets that have at most `t` colours beside the own ones. All
+/// that stands in the tables before is written over.
+fn fill_layers(tables: &mut [i64], table: &mut [i64], stock: &Stock, own: &[u16], layers: usize)
+    requires stock { IsStocked stock.now }
     requires shape { length tables.old ≡ layers * length table.old }
     requires layers { layers ≤ 9 }
-    requires stock { AreStock rest.now prices.now items.now }
-    requires first { cell table.old 0 ≡ Some (pos 0) }
-    requires others { (l : ℕ) → suc l < length table.old → cell table.old (suc l) ≡ None }
-    requires near { AreNear 0 table.old }
-    requires all_near { AreNear 0 tables.old }
-    ensures best { AreLayers all_places own.now (different own.now) rest.now prices.now layers
+    requires some { 0 < length table.old }
+    ensures best { AreLayersOf stock.now all_places own.now (different own.now) layers
         (length table.old) tables.new }
     ensures near { AreNear 200000000000000000 tables.new }
 {
-    add_own(table, rest, prices, items, own);
+    clear(table);
+    add_own(table, stock, own);
     spread_layer(tables, table, layers);
-    add_colours(tables, table, rest, prices, items, own, layers);
+    add_colours(tables, table, stock, own, layers);
 }
 
-/// All layers of a width.
-fn all_layers(
-    alloc: Global,
-    rest: &[Order],
-    prices: &[i64],
-    items: &[Item],
-    own: &[u16],
-    width: usize,
-    layers: usize,
-) -> Result<Vec<i64>, OutOfMemory>
-    requires some { 0 < width }
-    requires narrow { width ≤ 20001 }
-    requires layers { layers ≤ 9 }
-    requires stock { AreStock rest.now prices.now items.now }
-    ensures length { IfOk result (λ tables. length tables.items ≡ layers * width) }
-    ensures best { IfOk result (λ tables. AreLayers all_places own.now (different own.now) rest.now
-        prices.now layers width tables.items) }
-    ensures near { IfOk result (λ tables. AreNear 200000000000000000 tables.items) }
-{
-    let mut table = empty_table(alloc, width)?;
-    let mut tables = vec![in alloc; NOTHING; layers * width]?;
-    fill_layers(&mut tables, &mut table, rest, prices, items, own, layers);
-    Ok(tables)
-}
-
-/// The least slack of a group of this load and these colours, over all sets of later orders that
-/// may join it, the empty one included.
-pub(crate) fn least_slack(
-    alloc: Global,
+/// The greatest gain of a group of this load and these colours, over all sets of later orders that
+/// may join it.
+fn greatest_gain(
+    tables: &mut [i64],
+    table: &mut [i64],
     judge: &Judge,
-    rest: &[Order],
-    prices: &[i64],
-    items: &[Item],
+    stock: &Stock,
     load: usize,
     own: &[u16],
-) -> Result<i64, OutOfMemory>
-    requires stock { AreStock rest.now prices.now items.now }
+) -> i64
+    requires stock { IsStocked stock.now }
     requires fits { load ≤ judge.now.largest }
     requires own { length own.now ≡ different own.now }
     requires few { length own.now ≤ judge.now.most_colours }
-    ensures is { (group : List Order) → IsSlab group load own.now → IfOk result (λ least. least ≡
-        least_slack (mill_by judge.now) (λ l. slice_index judge.now.charges.items l) group rest.now
-        prices.now) }
-    ensures small { IfOk result (λ least. IsSmall 30000000000000 least) }
+    requires width { length table.old ≡ judge.now.largest - load + 1 }
+    requires shape { length tables.old
+        ≡ (judge.now.most_colours - length own.now + 1) * length table.old }
+    ensures top { IsTop (Joins all_places 0 judge.now.largest load own.now judge.now.most_colours
+        stock.now.rest.now) (gain (λ l. slice_index judge.now.charges.items l) load
+        stock.now.rest.now stock.now.prices.now) (found result) }
+    ensures near { IsNear (2 ^ 59) result }
+{
+    let layers = judge.most_colours as usize - own.len() + 1;
+    fill_layers(tables, table, stock, own, layers);
+    last_gain(tables, (layers - 1) * table.len(), &judge.charges, load)
+}
+
+/// The least slack of a group of this load and these colours, over all sets of later orders that
+/// may join it, the empty one included. It takes a front of each table.
+fn least_slack(
+    tables: &mut [i64],
+    table: &mut [i64],
+    judge: &Judge,
+    stock: &Stock,
+    load: usize,
+    own: &[u16],
+) -> i64
+    requires one { length table.old ≡ judge.now.largest + 1 }
+    requires room { length tables.old
+        ≡ (judge.now.most_colours + 1) * (judge.now.largest + 1) }
+    requires stock { IsStocked stock.now }
+    requires fits { load ≤ judge.now.largest }
+    requires own { length own.now ≡ different own.now }
+    requires few { length own.now ≤ judge.now.most_colours }
+    ensures is { (group : List Order) → IsSlab group load own.now → result ≡
+        least_slack (mill_by judge.now) (λ l. slice_index judge.now.charges.items l) group
+        stock.now.rest.now stock.now.prices.now }
+    ensures small { IsSmall 30000000000000 result }
 {
     let width = judge.largest as usize - load + 1;
     let layers = judge.most_colours as usize - own.len() + 1;
-    let tables = all_layers(alloc, rest, prices, items, own, width, layers)?;
-    let best = last_gain(&tables, (layers - 1) * width, &judge.charges, load);
-    Ok(-best)
+    let tables = &mut tables[..layers * width];
+    -greatest_gain(tables, &mut table[..width], judge, stock, load, own)
+}
+
+/// Tables for one group after another, as long as those of an empty slab.
+#[derive(Drop)]
+pub(crate) struct Tables {
+    one: Vec<i64>,
+    layers: Vec<i64>,
+}
+
+impl Tables {
+    pub(crate) fn new(alloc: Global, judge: &Judge) -> Result<Tables, OutOfMemory>
+        ensures { IfOk result (HasRoom judge.now) }
+    {
+        let width = judge.largest as usize + 1;
+        let layers = judge.most_colours as usize + 1;
+        Ok(Tables {
+            one: vec![in alloc; NOTHING; width]?,
+            layers: vec![in alloc; NOTHING; layers * width]?,
+        })
+    }
+
+    /// The least slack of a group of this load and these colours.
+    pub(crate) fn least_slack(
+        &mut self,
+        judge: &Judge,
+        stock: &Stock,
+        load: usize,
+        own: &[u16],
+    ) -> i64
+        requires room { HasRoom judge.now self.old }
+        requires stock { IsStocked stock.now }
+        requires fits { load ≤ judge.now.largest }
+        requires own { length own.now ≡ different own.now }
+        requires few { length own.now ≤ judge.now.most_colours }
+        ensures is { (group : List Order) → IsSlab group load own.now → result ≡
+            least_slack (mill_by judge.now) (λ l. slice_index judge.now.charges.items l) group
+            stock.now.rest.now stock.now.prices.now }
+        ensures small { IsSmall 30000000000000 result }
+        ensures room { HasRoom judge.now self.new }
+    {
+        least_slack(&mut self.layers, &mut self.one, judge, stock, load, own)
+    }
 }

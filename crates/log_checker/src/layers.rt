@@ -1,19 +1,19 @@
 // Layers of the knapsack: tables of one width one after another, each with one colour more than the
 // one before.
 
-ghost use Rattle.std.specs.Prelude.{◌≡◌, ℕ, List, suc, true, false, ◌+◌, ◌-◌, ◌*◌, ◌^◌, ◌<◌, ◌≤◌};
-ghost use Rattle.std.specs.Prelude.{◌⊎◌, ◌≢◌, length, slice_index_or, pos};
+ghost use Rattle.std.specs.Prelude.{◌≡◌, ℕ, List, suc, ◌+◌, ◌-◌, ◌*◌, ◌^◌, ◌<◌, ◌≤◌, ◌⊎◌, ◌≢◌};
+ghost use Rattle.std.specs.Prelude.{length, slice_index_or, pos};
 ghost use Rattle.std.specs.Int.{int_max};
 ghost use Rattle.mill_model.specs.Sets.{different};
-ghost use Rattle.set_minima.specs.Packs.{IsTable};
 ghost use Rattle.set_minima.specs.Joins.{all_places};
-ghost use Rattle.log_checker.specs.Tables.{cell, AreNear, AreStock, AreLayers, let_in, IsRun};
-ghost use Rattle.log_checker.specs.Tables.{IsStretch, item_at, owned};
+ghost use Rattle.log_checker.specs.Tables.{cell, AreNear, IsStretch, item_at};
+ghost use Rattle.log_checker.specs.Stocked.{IsStocked, IsTableOf, AreLayersOf, IsRunOf, let_to};
+ghost use Rattle.log_checker.specs.Stocked.{own_of};
 
 use crate::groups::has;
 use crate::items::Item;
+use crate::stock::Stock;
 use crate::table::add_run;
-use mill_model::Order;
 
 /// Copies the layer that begins at `at` into a table.
 fn copy_layer(table: &mut [i64], tables: &[i64], at: usize)
@@ -54,28 +54,20 @@ fn better_layer(tables: &mut [i64], table: &[i64], at: usize)
 
 /// Lets the orders of a run into layer `t`, over the sets that the layer below has for a colour
 /// less.
-fn raise_layer(
-    tables: &mut [i64],
-    table: &mut [i64],
-    rest: &[Order],
-    prices: &[i64],
-    items: &[Item],
-    run: (usize, usize),
-    t: usize,
-)
+fn raise_layer(tables: &mut [i64], table: &mut [i64], stock: &Stock, run: (usize, usize), t: usize)
+    requires stock { IsStocked stock.now }
     requires above { 0 < t }
     requires inside { t * length table.old + length table.old ≤ length tables.old }
-    requires stock { AreStock rest.now prices.now items.now }
     requires order { run.0 ≤ run.1 }
-    requires ends { run.1 ≤ length items.now }
+    requires ends { run.1 ≤ length stock.now.items.now }
     requires near { AreNear (2 ^ 58) tables.old }
     ensures best { (own : List ℕ) → (colour k : ℕ) →
-        IsRun rest.now items.now own run.0 run.1 colour →
-        IsTable (let_in rest.now items.now own run.0) own k rest.now prices.now (length table.old)
+        IsRunOf stock.now own run.0 run.1 colour →
+        IsTableOf stock.now (let_to stock.now own run.0) own k (length table.old)
         (λ l. cell tables.old ((t - 1) * length table.old + l)) →
-        IsTable (let_in rest.now items.now own run.0) own (suc k) rest.now prices.now
+        IsTableOf stock.now (let_to stock.now own run.0) own (suc k)
         (length table.old) (λ l. cell tables.old (t * length table.old + l)) →
-        IsTable (let_in rest.now items.now own run.1) own (suc k) rest.now prices.now
+        IsTableOf stock.now (let_to stock.now own run.1) own (suc k)
         (length table.old) (λ l. cell tables.new (t * length table.old + l)) }
     ensures other { (i : ℕ) → i < t * length table.old ⊎
         t * length table.old + length table.old ≤ i →
@@ -84,7 +76,7 @@ fn raise_layer(
 {
     let width = table.len();
     copy_layer(table, tables, (t - 1) * width);
-    add_run(table, rest, prices, items, run.0, run.1);
+    add_run(table, stock, run.0, run.1);
     better_layer(tables, table, t * width);
 }
 
@@ -92,28 +84,26 @@ fn raise_layer(
 fn add_colour(
     tables: &mut [i64],
     table: &mut [i64],
-    rest: &[Order],
-    prices: &[i64],
-    items: &[Item],
+    stock: &Stock,
     run: (usize, usize),
     layers: usize,
 )
+    requires stock { IsStocked stock.now }
     requires shape { length tables.old ≡ layers * length table.old }
     requires layers { layers ≤ 9 }
-    requires stock { AreStock rest.now prices.now items.now }
     requires order { run.0 ≤ run.1 }
-    requires ends { run.1 ≤ length items.now }
+    requires ends { run.1 ≤ length stock.now.items.now }
     requires near { AreNear 200000000000000000 tables.old }
     ensures best { (own : List ℕ) → (colour few : ℕ) → few ≡ different own →
-        IsRun rest.now items.now own run.0 run.1 colour →
-        AreLayers (let_in rest.now items.now own run.0) own few rest.now prices.now layers
+        IsRunOf stock.now own run.0 run.1 colour →
+        AreLayersOf stock.now (let_to stock.now own run.0) own few layers
         (length table.old) tables.old →
-        AreLayers (let_in rest.now items.now own run.1) own few rest.now prices.now layers
+        AreLayersOf stock.now (let_to stock.now own run.1) own few layers
         (length table.old) tables.new }
     ensures near { (n : ℕ) → AreNear n tables.old → AreNear (n + 184320000000000) tables.new }
 {
     for t in (1..layers).rev() {
-        raise_layer(tables, table, rest, prices, items, run, t);
+        raise_layer(tables, table, stock, run, t);
     }
 }
 
@@ -123,7 +113,7 @@ pub(crate) fn spread_layer(tables: &mut [i64], table: &[i64], layers: usize)
     ensures is { (t : ℕ) → t < layers → (l : ℕ) → l < length table.now →
         slice_index_or tables.new (t * length table.now + l) (pos 0)
         ≡ slice_index_or table.now l (pos 0) }
-    ensures near { (n : ℕ) → AreNear n tables.old → AreNear n table.now → AreNear n tables.new }
+    ensures near { (n : ℕ) → AreNear n table.now → AreNear n tables.new }
 {
     for t in 0..layers {
         put_layer(tables, table, t * table.len());
@@ -152,27 +142,25 @@ fn run_end(items: &[Item], at: usize) -> usize
 fn add_next(
     tables: &mut [i64],
     table: &mut [i64],
-    rest: &[Order],
-    prices: &[i64],
-    items: &[Item],
+    stock: &Stock,
     own: &[u16],
     run: (usize, usize),
     layers: usize,
 )
+    requires stock { IsStocked stock.now }
     requires shape { length tables.old ≡ layers * length table.old }
     requires layers { layers ≤ 9 }
-    requires stock { AreStock rest.now prices.now items.now }
-    requires stretch { IsStretch items.now run.0 run.1 }
+    requires stretch { IsStretch stock.now.items.now run.0 run.1 }
     requires near { AreNear 200000000000000000 tables.old }
     ensures best { (few : ℕ) → few ≡ different own.now →
-        AreLayers (let_in rest.now items.now own.now run.0) own.now few rest.now prices.now layers
+        AreLayersOf stock.now (let_to stock.now own.now run.0) own.now few layers
         (length table.old) tables.old →
-        AreLayers (let_in rest.now items.now own.now run.1) own.now few rest.now prices.now layers
+        AreLayersOf stock.now (let_to stock.now own.now run.1) own.now few layers
         (length table.old) tables.new }
     ensures near { (n : ℕ) → AreNear n tables.old → AreNear (n + 184320000000000) tables.new }
 {
-    if !has(own, items[run.0].colour) {
-        add_colour(tables, table, rest, prices, items, run, layers);
+    if !has(own, stock.items[run.0].colour) {
+        add_colour(tables, table, stock, run, layers);
     }
 }
 
@@ -180,26 +168,24 @@ fn add_next(
 pub(crate) fn add_colours(
     tables: &mut [i64],
     table: &mut [i64],
-    rest: &[Order],
-    prices: &[i64],
-    items: &[Item],
+    stock: &Stock,
     own: &[u16],
     layers: usize,
 )
+    requires stock { IsStocked stock.now }
     requires shape { length tables.old ≡ layers * length table.old }
     requires layers { layers ≤ 9 }
-    requires stock { AreStock rest.now prices.now items.now }
     requires near { AreNear 20480000000000 tables.old }
     ensures best { (few : ℕ) → few ≡ different own.now →
-        AreLayers (owned rest.now own.now) own.now few rest.now prices.now layers
+        AreLayersOf stock.now (own_of stock.now own.now) own.now few layers
         (length table.old) tables.old →
-        AreLayers all_places own.now few rest.now prices.now layers (length table.old) tables.new }
+        AreLayersOf stock.now all_places own.now few layers (length table.old) tables.new }
     ensures near { AreNear 200000000000000000 tables.new }
 {
     let mut at = 0;
-    while at < items.len() {
-        let end = run_end(items, at);
-        add_next(tables, table, rest, prices, items, own, (at, end), layers);
+    while at < stock.items.len() {
+        let end = run_end(stock.items, at);
+        add_next(tables, table, stock, own, (at, end), layers);
         at = end;
     }
 }

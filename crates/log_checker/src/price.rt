@@ -1,87 +1,49 @@
 // Records by prices.
 
-ghost use Rattle.std.specs.Prelude.{◌≡◌, ◌<◌, ◌≤◌, ◌+◌, ◌-◌, ◌*◌, ℕ, ℤ, List, IfOk, drop, length, true, pos};
-ghost use Rattle.std.specs.Prelude.{slice_index, slice_index_or, slice_set, ◌+ℤ◌, ◌-ℤ◌, ◌*ℤ◌, int_lt, All};
+ghost use Rattle.std.specs.Prelude.{◌≡◌, ◌<◌, ◌≤◌, ◌+◌, ◌-◌, ◌*◌, ◌&&◌, ℕ, List, IfOk, All, true};
+ghost use Rattle.std.specs.Prelude.{drop, length, ltb, slice_index, slice_index_or, slice_set};
+ghost use Rattle.std.specs.Prelude.{◌-ℤ◌, ◌*ℤ◌, pos, int_lt};
 ghost use Rattle.mill_model.specs.Limits.{IsPrice};
 ghost use Rattle.mill_model.specs.Log.{sound};
-ghost use Rattle.mill_model.specs.Prices.{least_slack, valid, worth};
-ghost use Rattle.mill_model.specs.Sets.{different, int_sum, int_total};
+ghost use Rattle.mill_model.specs.Prices.{least_slack, valid};
+ghost use Rattle.mill_model.specs.Sets.{different, int_sum};
 ghost use Rattle.mill_model.specs.Tree.{next_new};
 ghost use Rattle.mill_model.specs.declared.order.Order.{Order};
 ghost use Rattle.mill_model.specs.declared.closing.Closing.TheVariants.{Priced};
 ghost use Rattle.refute_log.specs.Fits.{path_fits};
 ghost use Rattle.log_checker.specs.Groups.{AreGroups, IsSeen, nothing_seen};
 ghost use Rattle.log_checker.specs.Judged.{mill_by, task_by};
-ghost use Rattle.log_checker.specs.Keys.{AreSorted, same_key};
+ghost use Rattle.log_checker.specs.Keys.{same_key};
+ghost use Rattle.log_checker.specs.Live.{lives};
 ghost use Rattle.log_checker.specs.Slacks.{AreSlacks, slack_of, no_live};
-ghost use Rattle.log_checker.specs.Tables.{AreStock, IsSmall};
+ghost use Rattle.log_checker.specs.Stocked.{HasRoom, IsStocked};
+ghost use Rattle.log_checker.specs.Tables.{IsSmall};
 
 use crate::groups::{Group, groups_of};
-use crate::items::Item;
 use crate::judge::Judge;
 use crate::key::LiveGroup;
 use crate::keys::{same_key, sorted_live};
-use crate::knapsack::least_slack;
-use crate::live::is_live;
-use crate::stock::by_colour;
-use mill_model::{Order, OutOfMemory, Prices};
+use crate::knapsack::Tables;
+use crate::stock::{Stock, by_colour};
+use mill_model::{OutOfMemory, Prices};
 use std::alloc::Global;
 
 /// Whether prices of later orders are valid.
-fn are_valid(
-    alloc: Global,
-    judge: &Judge,
-    rest: &[Order],
-    prices: &[i64],
-    items: &[Item],
-) -> Result<bool, OutOfMemory>
-    requires { AreStock rest.now prices.now items.now }
-    ensures { IfOk result (λ yes. yes ≡ valid (mill_by judge.now)
-        (λ l. slice_index judge.now.charges.items l) rest.now prices.now) }
+fn are_valid(tables: &mut Tables, judge: &Judge, stock: &Stock) -> bool
+    requires room { HasRoom judge.now tables.old }
+    requires stock { IsStocked stock.now }
+    ensures is { result ≡ valid (mill_by judge.now) (λ l. slice_index judge.now.charges.items l)
+        stock.now.rest.now stock.now.prices.now }
+    ensures room { HasRoom judge.now tables.new }
 {
-    let none: [u16; 0] = [];
-    let least = least_slack(alloc, judge, rest, prices, items, 0, &none)?;
-    Ok(0 <= least)
-}
-
-/// The least slack of a group: what its load is charged, where no later order may join it.
-fn group_slack(
-    alloc: Global,
-    judge: &Judge,
-    k: usize,
-    prices: &[i64],
-    items: &[Item],
-    group: &Group,
-) -> Result<i64, OutOfMemory>
-    requires rank { k ≤ length judge.now.ranked.items }
-    requires stock { AreStock (drop k judge.now.ranked.items) prices.now items.now }
-    requires light { group.now.load ≤ 1024 * 1000000 }
-    requires once { length group.now.colours ≡ different group.now.colours }
-    ensures is { (orders : List Order) → IsSeen group.now orders → IfOk result (λ least. least ≡
-        least_slack (mill_by judge.now) (λ l. slice_index judge.now.charges.items l) orders
-        (drop k judge.now.ranked.items) prices.now) }
-    ensures small { IfOk result (λ least. IsSmall 30000000000000 least) }
-{
-    if !is_live(group, judge, k) {
-        return Ok((60 * judge.charge(group.load())) as i64);
-    }
-    let load = group.load() as usize;
-    least_slack(
-        alloc,
-        judge,
-        judge.later(k),
-        prices,
-        items,
-        load,
-        group.colours(),
-    )
+    0 <= tables.least_slack(judge, stock, 0, &[])
 }
 
 /// Whether the live group of a place has the key of the one before it.
 fn is_like_last(live: &[LiveGroup], i: usize) -> bool
     requires { i < length live.now }
-    ensures { result ≡ true → (1 ≤ i) × (same_key (slice_index_or live.now i no_live).key
-        (slice_index_or live.now (i - 1) no_live).key ≡ true) }
+    ensures { result ≡ (ltb 0 i && same_key (slice_index_or live.now i no_live).key
+        (slice_index_or live.now (i - 1) no_live).key) }
 {
     if i == 0 {
         return false;
@@ -97,46 +59,33 @@ fn set_slack(slacks: &mut Vec<i64>, g: usize, slack: i64)
     slacks[g] = slack;
 }
 
-/// The least slack of the live group of a place in the order of keys, where the one before it has
-/// `last`.
-fn live_slack(
-    alloc: Global,
+/// The least slack of a live group, which is `last` where the group is like the last one.
+fn slack_after(
+    tables: &mut Tables,
     judge: &Judge,
-    path: &[u16],
-    prices: &[i64],
-    items: &[Item],
-    groups: &[Group],
-    live: &[LiveGroup],
-    i: usize,
+    stock: &Stock,
+    group: &Group,
+    is_like_last: bool,
     last: i64,
-) -> Result<i64, OutOfMemory>
-    requires rank { length path.now ≤ length judge.now.ranked.items }
-    requires stock { AreStock (drop (length path.now) judge.now.ranked.items) prices.now items.now }
-    requires groups { AreGroups groups.now path.now judge.now.ranked.items }
-    requires sorted { AreSorted (mill_by judge.now) (drop (length path.now) judge.now.ranked.items)
-        groups.now live.now }
-    requires here { i < length live.now }
-    requires inside { (slice_index_or live.now i no_live).group < length groups.now }
-    requires last { (j : ℕ) → j + 1 ≡ i → last ≡ slack_of (mill_by judge.now)
-        judge.now.charges.items judge.now.ranked.items path.now prices.now
-        (slice_index_or live.now j no_live).group }
+) -> i64
+    requires room { HasRoom judge.now tables.old }
+    requires stock { IsStocked stock.now }
+    requires live { lives (mill_by judge.now) stock.now.rest.now group.now ≡ true }
+    requires once { length group.now.colours ≡ different group.now.colours }
     requires small { IsSmall 30000000000000 last }
-    ensures is { IfOk result (λ slack. slack ≡ slack_of (mill_by judge.now)
-        judge.now.charges.items judge.now.ranked.items path.now prices.now
-        (slice_index_or live.now i no_live).group) }
-    ensures small { IfOk result (λ slack. IsSmall 30000000000000 slack) }
+    ensures is { (orders : List Order) → IsSeen group.now orders →
+        (is_like_last ≡ true → last ≡ least_slack (mill_by judge.now)
+        (λ l. slice_index judge.now.charges.items l) orders stock.now.rest.now
+        stock.now.prices.now) →
+        result ≡ least_slack (mill_by judge.now) (λ l. slice_index judge.now.charges.items l) orders
+        stock.now.rest.now stock.now.prices.now }
+    ensures small { IsSmall 30000000000000 result }
+    ensures room { HasRoom judge.now tables.new }
 {
-    if is_like_last(live, i) {
-        return Ok(last);
+    if is_like_last {
+        return last;
     }
-    group_slack(
-        alloc,
-        judge,
-        path.len(),
-        prices,
-        items,
-        &groups[live[i].group],
-    )
+    tables.least_slack(judge, stock, group.load() as usize, group.colours())
 }
 
 /// What each group is charged, 60 times.
@@ -158,47 +107,37 @@ fn charges_of(alloc: Global, judge: &Judge, groups: &[Group]) -> Result<Vec<i64>
 /// The least slack of each group of a path. Equal live groups are taken once.
 fn slacks_of(
     alloc: Global,
+    tables: &mut Tables,
     judge: &Judge,
+    stock: &Stock,
     path: &[u16],
-    prices: &[i64],
-    items: &[Item],
     groups: &[Group],
 ) -> Result<Vec<i64>, OutOfMemory>
+    requires room { HasRoom judge.now tables.old }
+    requires stock { IsStocked stock.now }
+    requires rest { stock.now.rest.now ≡ drop (length path.now) judge.now.ranked.items }
     requires rank { length path.now ≤ length judge.now.ranked.items }
-    requires stock { AreStock (drop (length path.now) judge.now.ranked.items) prices.now items.now }
     requires groups { AreGroups groups.now path.now judge.now.ranked.items }
     ensures { IfOk result (λ slacks. AreSlacks (next_new path.now) (slack_of (mill_by judge.now)
-        judge.now.charges.items judge.now.ranked.items path.now prices.now) slacks.items) }
+        judge.now.charges.items judge.now.ranked.items path.now stock.now.prices.now)
+        slacks.items) }
 {
     let live = sorted_live(alloc, judge, groups, path.len())?;
     let mut slacks = charges_of(alloc, judge, groups)?;
     let mut last = 0;
     for i in 0..live.len() {
-        last = live_slack(alloc, judge, path, prices, items, groups, &live, i, last)?;
-        set_slack(&mut slacks, live[i].group, last);
+        let g = live[i].group;
+        last = slack_after(
+            tables,
+            judge,
+            stock,
+            &groups[g],
+            is_like_last(&live, i),
+            last,
+        );
+        set_slack(&mut slacks, g, last);
     }
     Ok(slacks)
-}
-
-/// The sum of the least slacks of the groups of a path.
-fn groups_slack(
-    alloc: Global,
-    judge: &Judge,
-    path: &[u16],
-    prices: &[i64],
-    items: &[Item],
-    groups: &[Group],
-) -> Result<i64, OutOfMemory>
-    requires rank { length path.now ≤ length judge.now.ranked.items }
-    requires stock { AreStock (drop (length path.now) judge.now.ranked.items) prices.now items.now }
-    requires groups { AreGroups groups.now path.now judge.now.ranked.items }
-    requires few { length groups.now ≤ 1024 }
-    ensures is { IfOk result (λ sum. sum ≡ int_total (next_new path.now) (slack_of
-        (mill_by judge.now) judge.now.charges.items judge.now.ranked.items path.now prices.now)) }
-    ensures small { IfOk result (λ sum. IsSmall 30720000000000000 sum) }
-{
-    let slacks = slacks_of(alloc, judge, path, prices, items, groups)?;
-    Ok(sum_of(&slacks))
 }
 
 /// The sum of some numbers.
@@ -236,13 +175,20 @@ fn over_later(
     ensures { IfOk result (λ yes. yes ≡ sound (task_by judge.now) loss path.now
         (Priced prices.now)) }
 {
-    let items = by_colour(alloc, judge.later(path.len()))?;
-    if !are_valid(alloc, judge, judge.later(path.len()), prices, &items)? {
+    let rest = judge.later(path.len());
+    let items = by_colour(alloc, rest)?;
+    let stock = Stock {
+        rest,
+        prices,
+        items: &items,
+    };
+    let mut tables = Tables::new(alloc, judge)?;
+    if !are_valid(&mut tables, judge, &stock) {
         return Ok(false);
     }
     let groups = groups_of(alloc, judge, path)?;
-    let slack = groups_slack(alloc, judge, path, prices, &items, &groups)?;
-    Ok(exceeds(slack + sum_of(prices), loss))
+    let slacks = slacks_of(alloc, &mut tables, judge, &stock, path, &groups)?;
+    Ok(exceeds(sum_of(&slacks) + sum_of(prices), loss))
 }
 
 /// Whether a record by prices is sound.

@@ -14,7 +14,7 @@ use crate::dominated::{in_tree, is_settled};
 use crate::groups::{Group, groups_of};
 use crate::judge::Judge;
 use crate::keys::same_live;
-use crate::live::{both, dead_charge};
+use crate::live::dead_charge;
 use crate::price::priced_is_sound;
 use crate::tree::starts_class;
 use mill_model::{Closing, Entry, OutOfMemory};
@@ -66,11 +66,12 @@ fn is_carried(
     let k = path.len();
     let groups = groups_of(alloc, judge, path)?;
     let others = groups_of(alloc, judge, other)?;
-    let same = same_live(alloc, judge, &groups, &others, k)?;
+    if !same_live(alloc, judge, &groups, &others, k)? {
+        return Ok(false);
+    }
     let dead = dead_charge(&groups, judge, k);
     let other_dead = dead_charge(&others, judge, k);
-    let yes = both(same, other_dead <= dead);
-    Ok(yes)
+    Ok(other_dead <= dead)
 }
 
 /// Whether a dominated record is sound, and what it names is settled.

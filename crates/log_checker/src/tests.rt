@@ -1,326 +1,214 @@
-//! Verdicts on logs by hand.
-ghost use Rattle.std.specs.Prelude.{◌≡◌, ◌≤◌, length, All, true, IfOk};
+//! Verdicts on logs: by hand, by a plain reading of the definitions, and on what a stranger may
+//! send.
+
+ghost use Rattle.std.specs.Prelude.{◌≡◌, ◌≤◌, ◌+◌, length, All, IfOk};
 ghost use Rattle.mill_model.specs.Instance.{IsOrder};
 
-use super::*;
-use mill_model::{Charges, Instance, Order, OutOfMemory};
-use refute_log::parse_log;
-use std::alloc::Global;
-use std::test::Fail;
+mod by_hand;
+mod hostile;
+mod mutated;
+mod plain;
 
-// The verdict on a log's text, over some orders on the one size 4; none where it is no log.
-fn judged(
-    alloc: Global,
-    orders: Vec<Order>,
+use super::*;
+use mill_model::{Charges, Instance, MAX_ORDERS, Order, OutOfMemory};
+use refute_log::{Log, parse_log};
+use std::alloc::Global;
+
+/// What a log is judged over: orders as weights and colours, the one size, how many colours a slab
+/// may carry, and the loss.
+#[derive(Clone, Copy)]
+struct Case<'a> {
+    orders: &'a [(u32, u16)],
+    size: u32,
     p: u8,
     loss: u64,
-    text: &[u8],
-) -> Result<Option<LogVerdict>, OutOfMemory>
-    requires few { length orders.items ≤ 1024 }
-    requires each { All IsOrder orders.items }
-    requires p_low { 1 ≤ p }
-    requires p_high { p ≤ 8 }
+}
+
+/// Lines of a log, and what they are judged over.
+#[derive(Clone, Copy)]
+struct Lines<'a> {
+    case: Case<'a>,
+    lines: &'a [&'a str],
+}
+
+const THREE_ORDERS: Case<'static> = Case {
+    orders: &[(1, 1), (1, 2), (2, 3)],
+    size: 4,
+    p: 2,
+    loss: 4,
+};
+
+/// Splits and leaves alone.
+const LEAVES: Lines<'static> = Lines {
+    case: THREE_ORDERS,
+    lines: &[
+        "S 0",
+        "S 1 1",
+        "S 2 1 1",
+        "L 3 1 1 2",
+        "S 2 1 2",
+        "L 3 1 2 1",
+        "L 3 1 2 2",
+        "L 3 1 2 3",
+    ],
+};
+
+const PRICED: Lines<'static> = Lines {
+    case: THREE_ORDERS,
+    lines: &[
+        "S 0",
+        "S 1 1",
+        "P 2 1 1 180",
+        "S 2 1 2",
+        "L 3 1 2 1",
+        "L 3 1 2 2",
+        "L 3 1 2 3",
+    ],
+};
+
+/// All orders are of one class, and one record leaves the tree.
+const ONE_CLASS: Lines<'static> = Lines {
+    case: Case {
+        orders: &[(2, 1), (2, 1), (2, 1)],
+        size: 4,
+        p: 2,
+        loss: 2,
+    },
+    lines: &[
+        "S 0",
+        "S 1 1",
+        "S 2 1 1",
+        "L 3 1 1 2",
+        "S 2 1 2",
+        "L 3 1 2 1",
+        "L 3 1 2 2",
+        "L 3 1 2 3",
+    ],
+};
+
+/// The dominated path ends inside a class.
+const INSIDE_A_CLASS: Lines<'static> = Lines {
+    case: Case {
+        orders: &[(2, 1), (1, 1), (1, 2), (1, 2)],
+        size: 4,
+        p: 1,
+        loss: 3,
+    },
+    lines: &[
+        "S 0",
+        "S 1 1",
+        "S 2 1 1",
+        "S 3 1 1 2",
+        "L 4 1 1 2 2",
+        "L 4 1 1 2 3",
+        "S 2 1 2",
+        "D 3 1 2 3 1 1 2",
+    ],
+};
+
+const DOMINATED: Lines<'static> = Lines {
+    case: Case {
+        orders: &[(3, 1), (1, 2), (1, 3), (1, 4)],
+        size: 4,
+        p: 2,
+        loss: 2,
+    },
+    lines: &[
+        "S 0",
+        "S 1 1",
+        "S 2 1 1",
+        "S 3 1 1 2",
+        "L 4 1 1 2 2",
+        "L 4 1 1 2 3",
+        "S 2 1 2",
+        "D 3 1 2 1 1 1 2",
+        "P 3 1 2 2 0",
+        "P 3 1 2 3 0",
+    ],
+};
+
+fn orders_of(alloc: Global, list: &[(u32, u16)]) -> Result<Vec<Order>, OutOfMemory>
+    ensures { IfOk result (λ orders. All IsOrder orders.items) }
 {
-    let count = orders.len() as u16;
-    let instance = Instance::new(vec![in alloc; 4]?, 0, orders, p);
-    let charges = Charges::from_list(vec![in alloc; 0, 3, 2, 1, 0]?);
-    let Ok(log) = parse_log(alloc, count, text) else {
+    let mut orders = Vec::with_capacity(alloc, list.len())?;
+    for &(weight, colour) in list {
+        orders.push(Order {
+            weight: weight.clamp(1, 1_000_000),
+            colour: colour.clamp(1, 4096),
+        })?;
+    }
+    Ok(orders)
+}
+
+/// The charges of the loads up to the one size: what is left of it.
+fn charges_of(alloc: Global, size: u32) -> Result<Charges, OutOfMemory>
+    requires { size ≤ 20000 }
+    ensures { IfOk result (λ charges. length charges ≡ size + 1) }
+{
+    let mut table = vec![in alloc; 0]?;
+    for load in 0..size {
+        table.push(u64::from(size - 1 - load))?;
+    }
+    Ok(Charges::from_list(table))
+}
+
+/// The verdict on a log; none where it is a log of another number of orders.
+fn verdict_on(alloc: Global, case: Case, log: &Log) -> Result<Option<LogVerdict>, OutOfMemory> {
+    let orders = orders_of(alloc, case.orders)?;
+    if case.size < 1 || 20_000 < case.size || MAX_ORDERS < orders.len() {
         return Ok(None);
-    };
-    if instance.largest() != 4 || log.orders() as usize != instance.orders().len() {
+    }
+    let instance = Instance::new(vec![in alloc; case.size]?, 0, orders, case.p.clamp(1, 8));
+    let charges = charges_of(alloc, case.size)?;
+    if instance.largest() != case.size || log.orders() as usize != instance.orders().len() {
         return Ok(None);
     }
-    Ok(Some(check_log(alloc, &instance, &charges, loss, &log)?))
+    Ok(Some(check_log(alloc, &instance, &charges, case.loss, log)?))
 }
 
-// A verdict in words, with the path counted from 0.
-fn is_told(verdict: &Option<LogVerdict>, kind: &str, numbers: &[u16]) -> bool {
-    match verdict {
-        None => kind == "no log",
-        Some(LogVerdict::Refutes) => kind == "refutes",
-        Some(LogVerdict::Missing { path }) => kind == "missing" && path.numbers() == numbers,
-        Some(LogVerdict::Stray { path }) => kind == "stray" && path.numbers() == numbers,
-        Some(LogVerdict::Unsound { path }) => kind == "unsound" && path.numbers() == numbers,
+/// The text of a log of these lines, with their count.
+fn log_text(alloc: Global, lines: &[&str]) -> Result<String, OutOfMemory> {
+    let mut text = format!(in alloc; "log 1 {}\n", lines.len())?;
+    for line in lines {
+        text.push_str(line)?;
+        text.push('\n')?;
     }
-}
-
-// Three orders, of which each colour is another.
-fn three(alloc: Global) -> Result<Vec<Order>, OutOfMemory>
-    ensures { IfOk result (λ orders. (length orders.items ≤ 1024) × All IsOrder orders.items) }
-{
-    Ok(vec![in alloc;
-        Order {
-            weight: 1,
-            colour: 1
-        },
-        Order {
-            weight: 1,
-            colour: 2
-        },
-        Order {
-            weight: 2,
-            colour: 3
-        },
-    ]?)
-}
-
-#[test]
-fn three_orders(rt: HostRuntime) -> Result<(), Fail> {
-    let alloc = rt.alloc();
-    let rows: [(&[u8], &str, &[u16]); 14] = [
-        (
-            b"log 1 8\nS 0\nS 1 1\nS 2 1 1\nL 3 1 1 2\nS 2 1 2\nL 3 1 2 1\nL 3 1 2 2\nL 3 1 2 3\nend\n",
-            "refutes",
-            &[],
-        ),
-        (
-            b"log 1 7\nS 0\nS 1 1\nS 2 1 1\nS 2 1 2\nL 3 1 2 1\nL 3 1 2 2\nL 3 1 2 3\nend\n",
-            "missing",
-            &[0, 0, 1],
-        ),
-        (
-            b"log 1 7\nS 0\nS 1 1\nP 2 1 1 180\nS 2 1 2\nL 3 1 2 1\nL 3 1 2 2\nL 3 1 2 3\nend\n",
-            "refutes",
-            &[],
-        ),
-        (
-            b"log 1 6\nS 0\nS 1 1\nP 2 1 1 180\nS 2 1 2\nL 3 1 2 1\nL 3 1 2 2\nend\n",
-            "missing",
-            &[0, 1, 2],
-        ),
-        (
-            b"log 1 7\nS 0\nS 1 1\nP 2 1 1 121\nS 2 1 2\nL 3 1 2 1\nL 3 1 2 2\nL 3 1 2 3\nend\n",
-            "refutes",
-            &[],
-        ),
-        (
-            b"log 1 7\nS 0\nS 1 1\nP 2 1 1 120\nS 2 1 2\nL 3 1 2 1\nL 3 1 2 2\nL 3 1 2 3\nend\n",
-            "unsound",
-            &[0, 0],
-        ),
-        (
-            b"log 1 7\nS 0\nS 1 1\nP 2 1 1 181\nS 2 1 2\nL 3 1 2 1\nL 3 1 2 2\nL 3 1 2 3\nend\n",
-            "unsound",
-            &[0, 0],
-        ),
-        (b"log 1 0\nend\n", "missing", &[]),
-        (b"log 1 1\nL 0\nend\n", "unsound", &[]),
-        (b"log 1 1\nL 3 3 3 3\nend\n", "missing", &[]),
-        (b"log 1 2\nS 0\nL 3 3 3 3\nend\n", "missing", &[0]),
-        (
-            b"log 1 5\nS 0\nS 1 1\nS 2 1 1\nS 3 1 1 2\nS 2 1 2\nend\n",
-            "unsound",
-            &[0, 0, 1],
-        ),
-        (b"log 1 1\nD 0\nend\n", "unsound", &[]),
-        (
-            b"log 1 1\nP 0 20000000000 20000000000 20000000000\nend\n",
-            "unsound",
-            &[],
-        ),
-    ];
-    for (text, kind, numbers) in rows {
-        let verdict = judged(alloc, three(alloc)?, 2, 4, text)?;
-        assert!(rt; is_told(&verdict, kind, numbers), "at {kind}");
-    }
-    Ok(())
-}
-
-// Three orders of weight 2 and colour 1.
-fn alike(alloc: Global) -> Result<Vec<Order>, OutOfMemory>
-    ensures { IfOk result (λ orders. (length orders.items ≤ 1024) × All IsOrder orders.items) }
-{
-    Ok(vec![in alloc;
-        Order {
-            weight: 2,
-            colour: 1
-        },
-        Order {
-            weight: 2,
-            colour: 1
-        },
-        Order {
-            weight: 2,
-            colour: 1
-        },
-    ]?)
-}
-
-#[test]
-fn orders_of_one_class(rt: HostRuntime) -> Result<(), Fail> {
-    let alloc = rt.alloc();
-    let rows: [(&[u8], &str, &[u16]); 2] = [
-        (
-            b"log 1 8\nS 0\nS 1 1\nS 2 1 1\nL 3 1 1 2\nS 2 1 2\nL 3 1 2 1\nL 3 1 2 2\nL 3 1 2 3\nend\n",
-            "stray",
-            &[0, 1, 0],
-        ),
-        (
-            b"log 1 7\nS 0\nS 1 1\nS 2 1 1\nL 3 1 1 2\nS 2 1 2\nL 3 1 2 2\nL 3 1 2 3\nend\n",
-            "refutes",
-            &[],
-        ),
-    ];
-    for (text, kind, numbers) in rows {
-        let verdict = judged(alloc, alike(alloc)?, 2, 2, text)?;
-        assert!(rt; is_told(&verdict, kind, numbers), "at {kind}");
-    }
-    Ok(())
-}
-
-#[test]
-fn equal_live_groups(rt: HostRuntime) -> Result<(), Fail> {
-    let alloc = rt.alloc();
-    let rows: [(&[u8], &str, &[u16]); 4] = [
-        (
-            b"log 1 4\nS 0\nS 1 1\nP 2 1 1 120\nP 2 1 2 -120\nend\n",
-            "refutes",
-            &[],
-        ),
-        (
-            b"log 1 4\nS 0\nS 1 1\nP 2 1 1 120\nP 2 1 2 -61\nend\n",
-            "refutes",
-            &[],
-        ),
-        (
-            b"log 1 4\nS 0\nS 1 1\nP 2 1 1 120\nP 2 1 2 -60\nend\n",
-            "unsound",
-            &[0, 1],
-        ),
-        (
-            b"log 1 4\nS 0\nS 1 1\nP 2 1 1 121\nP 2 1 2 -120\nend\n",
-            "unsound",
-            &[0, 0],
-        ),
-    ];
-    for (text, kind, numbers) in rows {
-        let verdict = judged(alloc, alike(alloc)?, 2, 2, text)?;
-        assert!(rt; is_told(&verdict, kind, numbers), "at {kind}");
-    }
-    Ok(())
-}
-
-// As many orders as there may be, each of weight 1.
-fn many(alloc: Global) -> Result<Vec<Order>, OutOfMemory>
-    ensures { IfOk result (λ orders. (length orders.items ≤ 1024) × All IsOrder orders.items) }
-{
-    Ok(vec![in alloc; Order {
-        weight: 1,
-        colour: 1
-    }; 1024]?)
-}
-
-// A log of one record of prices, all the same.
-fn same_prices(alloc: Global, price: &[u8]) -> Result<Vec<u8>, OutOfMemory> {
-    let mut text = Vec::new(alloc);
-    text.extend_from_slice(b"log 1 1\nP 0")?;
-    for _i in 0..1024usize {
-        text.push(b' ')?;
-        text.extend_from_slice(price)?;
-    }
-    text.extend_from_slice(b"\nend\n")?;
+    text.push_str("end\n")?;
     Ok(text)
 }
 
-#[test]
-fn many_orders(rt: HostRuntime) -> Result<(), Fail> {
-    let alloc = rt.alloc();
-    let rows: [(&[u8], u64, &str); 5] = [
-        (b"20000000000", 1, "unsound"),
-        (b"-20000000000", 1, "unsound"),
-        (b"-20000000000", 18446744073709551615, "unsound"),
-        (b"0", 1, "unsound"),
-        (b"0", 0, "refutes"),
-    ];
-    for (price, loss, kind) in rows {
-        let text = same_prices(alloc, price)?;
-        let verdict = judged(alloc, many(alloc)?, 2, loss, &text)?;
-        assert!(rt; is_told(&verdict, kind, &[]), "at {kind}");
+/// A verdict in words, with the path as `verify` prints it.
+fn told(alloc: Global, verdict: &Option<LogVerdict>) -> Result<String, OutOfMemory> {
+    let (kind, path) = match verdict {
+        None => return Ok(String::from_str(alloc, "no verdict")?),
+        Some(LogVerdict::Refutes) => return Ok(String::from_str(alloc, "refutes")?),
+        Some(LogVerdict::Missing { path }) => ("missing", path),
+        Some(LogVerdict::Stray { path }) => ("stray", path),
+        Some(LogVerdict::Unsound { path }) => ("unsound", path),
+    };
+    let mut words = format!(in alloc; "{kind} {}", path.numbers().len())?;
+    for number in path.numbers() {
+        words.push_str(&format!(in alloc; " {}", u32::from(*number) + 1)?)?;
     }
-    Ok(())
+    Ok(words)
 }
 
-// An order of weight 3 and three of weight 1, each of another colour.
-fn one_heavy(alloc: Global) -> Result<Vec<Order>, OutOfMemory>
-    ensures { IfOk result (λ orders. (length orders.items ≤ 1024) × All IsOrder orders.items) }
-{
-    Ok(vec![in alloc;
-        Order {
-            weight: 3,
-            colour: 1
-        },
-        Order {
-            weight: 1,
-            colour: 2
-        },
-        Order {
-            weight: 1,
-            colour: 3
-        },
-        Order {
-            weight: 1,
-            colour: 4
-        },
-    ]?)
-}
-
-#[test]
-fn dominated_at_the_start_of_a_class(rt: HostRuntime) -> Result<(), Fail> {
-    let alloc = rt.alloc();
-    let rows: [(&[u8], &str, &[u16]); 3] = [
-        (
-            b"log 1 10\nS 0\nS 1 1\nS 2 1 1\nS 3 1 1 2\nL 4 1 1 2 2\nL 4 1 1 2 3\nS 2 1 2\nD 3 1 2 1 1 1 2\nP 3 1 2 2 0\nP 3 1 2 3 0\nend\n",
-            "refutes",
-            &[],
-        ),
-        (
-            b"log 1 10\nS 0\nS 1 1\nS 2 1 1\nS 3 1 1 2\nL 4 1 1 2 2\nL 4 1 1 2 3\nS 2 1 2\nD 3 1 2 1 1 2 2\nP 3 1 2 2 0\nP 3 1 2 3 0\nend\n",
-            "unsound",
-            &[0, 1, 0],
-        ),
-        (
-            b"log 1 7\nS 0\nS 1 1\nS 2 1 1\nD 3 1 1 2 1 2 1\nS 2 1 2\nD 3 1 2 1 1 1 2\nP 3 1 2 2 0\nend\n",
-            "unsound",
-            &[0, 0, 1],
-        ),
-    ];
-    for (text, kind, numbers) in rows {
-        let verdict = judged(alloc, one_heavy(alloc)?, 2, 2, text)?;
-        assert!(rt; is_told(&verdict, kind, numbers), "at {kind}");
+/// The log of these lines, if they are one.
+fn log_of(alloc: Global, case: Case, lines: &[&str]) -> Result<Option<Log>, OutOfMemory> {
+    let text = log_text(alloc, lines)?;
+    let Ok(orders) = u16::try_from(case.orders.len()) else {
+        return Ok(None);
+    };
+    match parse_log(alloc, orders, text.as_bytes()) {
+        Ok(log) => Ok(Some(log)),
+        Err(_) => Ok(None),
     }
-    Ok(())
 }
 
-// Four orders, of which the last two are of one class.
-fn two_alike(alloc: Global) -> Result<Vec<Order>, OutOfMemory>
-    ensures { IfOk result (λ orders. (length orders.items ≤ 1024) × All IsOrder orders.items) }
-{
-    Ok(vec![in alloc;
-        Order {
-            weight: 2,
-            colour: 1
-        },
-        Order {
-            weight: 1,
-            colour: 1
-        },
-        Order {
-            weight: 1,
-            colour: 2
-        },
-        Order {
-            weight: 1,
-            colour: 2
-        },
-    ]?)
-}
-
-#[test]
-fn dominated_inside_a_class(rt: HostRuntime) -> Result<(), Fail> {
-    let alloc = rt.alloc();
-    let text =
-        b"log 1 8\nS 0\nS 1 1\nS 2 1 1\nS 3 1 1 2\nL 4 1 1 2 2\nL 4 1 1 2 3\nS 2 1 2\nD 3 1 2 3 1 1 2\nend\n";
-    let verdict = judged(alloc, two_alike(alloc)?, 1, 3, text)?;
-    assert!(rt; is_told(&verdict, "unsound", &[0, 1, 2]));
-    Ok(())
+/// The verdict in words on a log of these lines; where they are no log, that.
+fn told_of(alloc: Global, case: Case, lines: &[&str]) -> Result<String, OutOfMemory> {
+    match log_of(alloc, case, lines)? {
+        Some(log) => told(alloc, &verdict_on(alloc, case, &log)?),
+        None => Ok(String::from_str(alloc, "no log")?),
+    }
 }

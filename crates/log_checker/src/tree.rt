@@ -2,7 +2,8 @@ ghost use Rattle.std.specs.Prelude.{◌≡◌, ◌<◌, ◌≤◌, ◌^◌, ◌*
 ghost use Rattle.std.specs.Prelude.{length, cond, slice_index_or};
 ghost use Rattle.mill_model.specs.Rank.{starts_class_in, same_order};
 ghost use Rattle.mill_model.specs.Tree.{next_new, last_number, may_go_on};
-ghost use Rattle.log_checker.specs.Groups.{joined, may_be, nothing_seen, AreGroups};
+ghost use Rattle.mill_model.specs.Plan.{slab};
+ghost use Rattle.log_checker.specs.Groups.{joined, may_be, nothing_seen, IsSeen, AreGroups};
 ghost use Rattle.log_checker.specs.Judged.{mill_by};
 ghost use Rattle.log_checker.specs.Agenda.{opened};
 ghost use Rattle.log_checker.specs.declared.agenda.Wanted.TheVariants.{Child};
@@ -29,7 +30,7 @@ pub(crate) fn starts_class(judge: &Judge, k: usize) -> bool
 }
 
 /// The last number of a path, or 0.
-pub(crate) fn last_number(path: &[u16]) -> u16
+fn last_number(path: &[u16]) -> u16
     ensures { result ≡ last_number path.now }
 {
     if path.is_empty() {
@@ -39,7 +40,7 @@ pub(crate) fn last_number(path: &[u16]) -> u16
 }
 
 /// Whether a group, or the next new one, stays legal with one more order.
-pub(crate) fn may_join(judge: &Judge, groups: &[Group], g: usize, order: Order) -> bool
+fn may_join(judge: &Judge, groups: &[Group], g: usize, order: Order) -> bool
     requires { (slice_index_or groups.now g nothing_seen).load + order.weight < 2 ^ 64 }
     ensures { result ≡
         may_be (mill_by judge.now) (joined (slice_index_or groups.now g nothing_seen) order) }
@@ -52,8 +53,10 @@ pub(crate) fn may_join(judge: &Judge, groups: &[Group], g: usize, order: Order) 
 }
 
 /// Whether a path may go on with a group of its own or the next new one.
-fn may_go_on(judge: &Judge, groups: &[Group], path: &[u16], g: u16) -> bool
-    requires groups { AreGroups groups.now path.now judge.now.ranked.items }
+pub(crate) fn may_go_on(judge: &Judge, groups: &[Group], path: &[u16], g: u16) -> bool
+    requires seen { IsSeen (slice_index_or groups.now g nothing_seen)
+        (slab g path.now judge.now.ranked.items) }
+    requires light { (slice_index_or groups.now g nothing_seen).load ≤ 1024 * 1000000 }
     requires within { length path.now < length judge.now.ranked.items }
     requires near { g ≤ next_new path.now }
     ensures { result ≡ may_go_on (mill_by judge.now) judge.now.ranked.items path.now g }

@@ -15,6 +15,7 @@ use Rattle.std.specs.Fmt.{decimal, signed_decimal}
 use Rattle.line_text.specs.Lines.{is_end, first_filled}
 use Rattle.line_text.specs.Words.{line_words, BeginsWith}
 use Rattle.line_text.specs.Numbers.{ordinals, signed_numbers, IsWithin}
+use Rattle.line_text.proofs.Plain.{ordinals-injective}
 use Rattle.mill_model.specs.Log.{recorded}
 use Rattle.mill_model.specs.declared.closing.Entry.{Entry}
 use Rattle.mill_model.specs.declared.closing.Closing.{Closing}
@@ -32,21 +33,6 @@ use Rattle.refute_log.proofs.RecordLines.{path-numbers, price-numbers, words-rec
 use Rattle.refute_log.proofs.RecordLines.{words-first_line, record-is_no_end}
 use Rattle.refute_log.proofs.Reading.{spelled, same-front, length-ordinals}
 use Rattle.refute_log.proofs.Rises.{recorded-append, rises-front}
-
-ordinals-same : (n : ℕ) (xs ys : List ℕ) → n < 2 ^ 16 → All (λ g. g < n) xs → All (λ g. g < n) ys
-    → ordinals xs ≡ ordinals ys → xs ≡ ys
-ordinals-same n [] [] small a b e = refl
-ordinals-same n [] (y ∷ ys) small a b e = absurd (omega (arith, ap length e))
-ordinals-same n (x ∷ xs) [] small a b e = absurd (omega (arith, ap length e))
-ordinals-same n (x ∷ xs) (y ∷ ys) small a b e =
-    let k : x < n = All-head (λ g. g < n) x xs a in
-    let l : y < n = All-head (λ g. g < n) y ys b in
-    let h : decimal (x + 1) ≡ decimal (y + 1) = cc in
-    let t : ordinals xs ≡ ordinals ys = cc in
-    let i : x + 1 ≡ y + 1 = decimal_injective (x + 1) (y + 1) (omega arith) (omega arith) h in
-    let s : x ≡ y = omega arith in
-    ap₂ (λ z zs. z ∷ zs) s (ordinals-same n xs ys small
-    (All-tail (λ g. g < n) x xs a) (All-tail (λ g. g < n) y ys b) t)
 
 mag-small : (x : ℤ) → IsWithin 20000000000 x → mag x < 2 ^ 63
 mag-small (pos n) w = omega (arith, ints)
@@ -85,7 +71,7 @@ closing-same n depth (Dominated xs) (Dominated ys) small f g k w =
     let r = and_parts (leb (length xs) n) (list_all (λ g. ltb g n) xs) p.0 in
     let s = and_parts (leb (length ys) n) (list_all (λ g. ltb g n) ys) q.0 in
     ap (λ zs. Dominated zs)
-    (ordinals-same n xs ys small (path-numbers n xs r.1) (path-numbers n ys s.1) w)
+    (ordinals-injective n xs ys (omega arith) (path-numbers n xs r.1) (path-numbers n ys s.1) w)
 closing-same n depth c d small f g k w = absurd (omega (arith, ap (λ l. get_or l 0 0) k))
 
 -- records with one line are the same
@@ -105,7 +91,8 @@ record-same n e f small h k l =
     (closing_words f.closing) s.words
     (omega (arith, length-ordinals e.path, length-ordinals f.path, s.long)) in
     let path : e.path ≡ f.path =
-    ordinals-same n e.path f.path small (path-numbers n e.path p.1) (path-numbers n f.path q.1)
+    ordinals-injective n e.path f.path (omega arith) (path-numbers n e.path p.1)
+    (path-numbers n f.path q.1)
     t.0 in
     let c : closing_fits n (length e.path) f.closing ≡ true = rw (sym s.long) at b.1 in
     let closing : e.closing ≡ f.closing =

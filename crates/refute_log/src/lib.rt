@@ -14,5 +14,5 @@ pub use error::LogTextError;
 pub use log::Log;
 pub use mill_model::Entry;
 pub use paths::compare;
-pub use print::print_log;
+pub use print::{print_log, push_log};
 pub use read::{parse_log, read_log};

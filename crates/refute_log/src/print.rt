@@ -1,6 +1,8 @@
-ghost use Rattle.std.specs.Prelude.{◌≡◌, ◌++◌, ◌∷◌, [], IfOk, OnOk, flat_map};
-ghost use Rattle.line_text.specs.Lines.{text_lines};
-ghost use Rattle.refute_log.specs.Text.{log_text, record_line, letter_of, closing_words};
+ghost use Rattle.std.specs.Prelude.{◌≡◌, ◌++◌, ◌∷◌, [], IfOk, OnOk, OnErr, flat_map, length, List};
+ghost use Rattle.std.specs.Prelude.{ℕ};
+ghost use Rattle.line_text.specs.Lines.{text_lines, text_of};
+ghost use Rattle.refute_log.specs.Logged.{IsLog};
+ghost use Rattle.refute_log.specs.Text.{log_text, log_lines, record_line, letter_of, closing_words};
 ghost use Rattle.refute_log.specs.Text.{IsLogText};
 
 use crate::log::Log;
@@ -13,20 +15,34 @@ pub fn print_log(alloc: Global, log: &Log) -> Result<Vec<u8>, OutOfMemory>
     ensures text { IfOk result (λ text. text.items ≡ log_text log.now) }
     ensures read_back { IfOk result (λ text. IsLogText log.now (text_lines text.items)) }
 {
-    let entries = log.entries();
-    let mut text = Vec::from_slice(alloc, b"log 1 ")?;
-    push_number(&mut text, entries.len() as u64)?;
-    text.push(b'\n')?;
-    for entry in entries {
-        push_record(&mut text, entry)?;
-    }
+    let mut text = Vec::new(alloc);
+    push_log(&mut text, log)?;
     text.extend_from_slice(b"end\n")?;
     Ok(text)
 }
 
+/// Appends the lines of a log before `end`.
+pub fn push_log(text: &mut Vec<u8>, log: &Log) -> Result<(), OutOfMemory>
+    ensures ok { OnOk result (text.new.items ≡ text.old.items
+        ++ text_of (log_lines (length log.now.entries) log.now.entries)) }
+    ensures err { OnErr result ((more : List ℕ) × (text.new.items ≡ text.old.items ++ more)) }
+    ensures kept { IsLog log.now }
+{
+    let entries = log.entries();
+    text.extend_from_slice(b"log 1 ")?;
+    push_number(text, entries.len() as u64)?;
+    text.push(b'\n')?;
+    for entry in entries {
+        push_record(text, entry)?;
+    }
+    Ok(())
+}
+
 // Appends the line of a record, with its line feed.
 fn push_record(text: &mut Vec<u8>, entry: &Entry) -> Result<(), OutOfMemory>
-    ensures { OnOk result (text.new.items ≡ text.old.items ++ (record_line entry.now ++ 10 ∷ [])) }
+    ensures ok { OnOk result (text.new.items
+        ≡ text.old.items ++ (record_line entry.now ++ 10 ∷ [])) }
+    ensures err { OnErr result ((more : List ℕ) × (text.new.items ≡ text.old.items ++ more)) }
 {
     let path = entry.path.numbers();
     text.push(letter(&entry.closing))?;
@@ -51,8 +67,9 @@ fn letter(closing: &Closing) -> u8
 
 // Appends a space and the word, for each of the words behind the path.
 fn push_closing(text: &mut Vec<u8>, closing: &Closing) -> Result<(), OutOfMemory>
-    ensures { OnOk result (text.new.items
+    ensures ok { OnOk result (text.new.items
         ≡ text.old.items ++ flat_map (λ word. 32 ∷ word) (closing_words closing.now)) }
+    ensures err { OnErr result ((more : List ℕ) × (text.new.items ≡ text.old.items ++ more)) }
 {
     match closing {
         Closing::Split => {}

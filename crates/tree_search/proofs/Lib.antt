@@ -1,4 +1,6 @@
-pub mod Fronts
+pub mod Lists
+pub mod Turns
+pub mod Closed
 pub mod Leaves
-pub mod Searched
 pub mod Steps
+pub mod Ended

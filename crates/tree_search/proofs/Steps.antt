@@ -1,125 +1,116 @@
--- One closed path, over the ranked orders of an instance.
-use Rattle.std.proofs.Common.{ℕ, ◌+◌, ◌<◌, ◌≤◌, ◌≡◌, ◌≢◌, List, [], ◌∷◌, ◌++◌, map, length}
-use Rattle.std.proofs.Common.{reverse, refl, sym, ap, ap₂, subst, ◌∙◌, arith, inl, inr}
-use Rattle.std.proofs.Common.{eq-or-lt_of_le, get_or}
+-- How a path is closed, as its node tells it.
+use Rattle.std.proofs.Common.{ℕ, ◌<◌, ◌≤◌, ◌≡◌, ◌≢◌, true, List, [], map, length}
+use Rattle.std.proofs.Common.{refl, sym, ap, ap₂, subst, ◌∙◌, arith, eqb, leb, ltb}
+use Rattle.std.proofs.Common.{eq-eqb, le-leb, leb-true, lt-ltb}
+use Rattle.std.proofs.lemmas.Bool.{and_parts, and_from}
 use Rattle.std.proofs.lemmas.List.{length-map}
+use Rattle.std.specs.List.{All, list_all}
 use Rattle.mill_model.specs.Instance.{Problem, mill_of}
-use Rattle.mill_model.specs.Plan.{NoneLosesLess}
-use Rattle.mill_model.specs.Size.{enough}
-use Rattle.mill_model.specs.Rank.{rank, ranked_orders}
-use Rattle.mill_laws.proofs.Ranked.{rank-length}
-use Rattle.mill_model.specs.Tree.{children}
+use Rattle.mill_model.specs.Plan.{loss}
+use Rattle.mill_model.specs.Rank.{ranked_orders}
+use Rattle.mill_model.specs.Slab.{Mill}
+use Rattle.mill_model.specs.Tree.{children, goes_on, in_tree, next_new}
+use Rattle.mill_model.specs.declared.closing.Closing.TheVariants.{Split, Leaf}
+use Rattle.mill_model.specs.declared.order.Order.{Order}
 use Rattle.mill_model.specs.declared.plan.Start.{Start}
+use Rattle.mill_laws.proofs.Lists.{numbers-below}
+use Rattle.mill_laws.proofs.Paths.{tree-bound}
 use Rattle.order_symmetry.specs.Ranked.{RankedOrders, IsRankOf, orders_of}
-use Rattle.tree_search.specs.Search.{IsSearched, IsBetter, IsPlanWithLoss, task_for, tree_size}
+use Rattle.refute_log.specs.Fits.{path_fits}
 use Rattle.split_tree.specs.Node.{Node}
-use Rattle.tree_search.proofs.Searched.{closed-split, closed-leaf, none-waits, waits-less, tree-few}
+use Rattle.tree_search.specs.Search.{IsClosed, IsPlanWithLoss, task_for}
+
+-- a path of the tree is a path for its orders
+tree-fits_path : (mill : Mill) (ranked : List Order) (path : List ℕ) →
+    in_tree mill ranked path ≡ true → path_fits (length ranked) path ≡ true
+tree-fits_path mill ranked path inside =
+    let parts = and_parts (leb (length path) (length ranked)) (goes_on mill ranked [] path) inside
+    in
+    let few : next_new path ≤ length ranked =
+    omega (
+      arith,
+      tree-bound mill ranked path inside,
+      leb-true (length path) (length ranked) parts.0,
+    ) in
+    and_from (leb (length path) (length ranked)) (list_all (λ g. ltb g (length ranked)) path)
+    parts.0 (numbers-below (length ranked) path few)
 
 module _ (problem : Problem) (ranked : RankedOrders) (charges : List ℕ)
     (of : IsRankOf problem ranked) where
   same-orders : orders_of ranked ≡ ranked_orders problem.orders
   same-orders = ap (λ placed. map (λ p. p.order) placed) of.placed
 
-  long : length (ranked_orders problem.orders) ≡ length ranked.placed
-  long = sym (ap length same-orders) ∙ length-map ranked.placed (λ p. p.order)
+  pub same-count : length (ranked_orders problem.orders) ≡ length ranked.placed
+  same-count = sym (ap length same-orders) ∙ length-map ranked.placed (λ p. p.order)
 
-  -- by the plan of a leaf
-  pub step-leaf : (path : List ℕ) (rest waiting : List (List ℕ)) (best new : Start) →
-      length path ≡ length ranked.placed → waiting ≡ rest →
-      IsBetter (task_for problem charges) problem.orders best path new →
-      (from closed : ℕ) →
-      IsSearched (task_for problem charges) problem.orders from best (rest ++ path ∷ []) closed →
-      IsSearched (task_for problem charges) problem.orders from new waiting (closed + 1)
-  step-leaf path rest waiting best new full same better from closed before =
-      subst (λ w. IsSearched (task_for problem charges) problem.orders from new w (closed + 1))
-      (sym same)
-      (closed-leaf (task_for problem charges) problem.orders from best new rest path closed
-      (full ∙ sym long) before better.plan better.better better.here)
+  pub same-tree : (path : List ℕ) → in_tree ranked.mill (orders_of ranked) path
+      ≡ in_tree (mill_of problem) (ranked_orders problem.orders) path
+  same-tree path = ap₂ (λ mill orders. in_tree mill orders path) of.mill same-orders
 
-  -- by the children of another path
-  pub step-split : (path : List ℕ) (rest waiting kids : List (List ℕ)) (best : Start) →
-      length path < length ranked.placed →
-      kids ≡ children ranked.mill (orders_of ranked) path → waiting ≡ rest ++ reverse kids →
-      (from closed : ℕ) →
-      IsSearched (task_for problem charges) problem.orders from best (rest ++ path ∷ []) closed →
-      IsSearched (task_for problem charges) problem.orders from best waiting (closed + 1)
-  step-split path rest waiting kids best short are same from closed before =
-      let its : kids ≡ children (mill_of problem) (ranked_orders problem.orders) path =
-      are ∙ ap₂ (λ mill orders. children mill orders path) of.mill same-orders in
-      subst (λ w. IsSearched (task_for problem charges) problem.orders from best w (closed + 1))
-      (sym (same ∙ ap (λ k. rest ++ reverse k) its))
-      (closed-split (task_for problem charges) problem.orders from best rest path closed
-      (omega (arith, long, short)) before)
+  module _ (path : List ℕ) (inside : in_tree ranked.mill (orders_of ranked) path ≡ true)
+      (node : Node) (is : node ≡ record { ranked = ranked; path = path }) (depth all : ℕ)
+      (deep : depth ≡ length node.path) (count : all ≡ length ranked.placed) where
+    fits-here : path_fits (length (ranked_orders problem.orders)) path ≡ true
+    fits-here =
+        tree-fits_path (mill_of problem) (ranked_orders problem.orders) path
+        (sym (same-tree path) ∙ inside)
 
-  -- the same, as the node of the path tells it
-  pub leaf-closed : (path : List ℕ) (node : Node) (depth all : ℕ) (rest : List (List ℕ))
-      (best new : Start) → node ≡ record { ranked = ranked; path = path } →
-      depth ≡ length node.path → all ≡ length ranked.placed → depth ≡ all →
-      (IsPlanWithLoss (task_for problem charges) problem.orders best →
-      IsBetter (task_for problem charges) problem.orders best node.path new) →
-      (from closed : ℕ) →
-      IsSearched (task_for problem charges) problem.orders from best (rest ++ path ∷ []) closed →
-      IsSearched (task_for problem charges) problem.orders from new rest (closed + 1)
-  leaf-closed path node depth all rest best new is deep count same keeps from closed before =
-      let its : node.path ≡ path = ap (λ (n : Node). n.path) is in
-      let full : length path ≡ length ranked.placed =
-      sym (ap length its) ∙ sym deep ∙ same ∙ count in
-      step-leaf path rest rest best new full refl
-      (subst (λ p. IsBetter (task_for problem charges) problem.orders best p new) its
-      (keeps before.plan))
-      from closed before
+    long : depth ≡ length path
+    long = deep ∙ ap (λ (n : Node). length n.path) is
 
-  pub kids-wait : (path : List ℕ) (node : Node) (depth all : ℕ)
-      (rest waiting kids : List (List ℕ)) (best : Start) →
-      node ≡ record { ranked = ranked; path = path } →
-      depth ≡ length node.path → depth ≤ length node.ranked.placed →
-      all ≡ length ranked.placed → depth ≢ all →
-      kids ≡ children node.ranked.mill (orders_of node.ranked) node.path →
-      waiting ≡ rest ++ reverse kids → (from closed : ℕ) →
-      IsSearched (task_for problem charges) problem.orders from best (rest ++ path ∷ []) closed →
-      IsSearched (task_for problem charges) problem.orders from best waiting (closed + 1)
-  kids-wait path node depth all rest waiting kids best is deep within count other are same from
-      closed before =
-      let its : node.path ≡ path = ap (λ (n : Node). n.path) is in
-      let size : length node.ranked.placed ≡ length ranked.placed =
-      ap (λ (n : Node). length n.ranked.placed) is in
-      let long : length node.path ≡ length path = ap length its in
-      let short : length path < length ranked.placed =
-      lt_of_le_ne (omega (arith, long, deep, within, size))
-      (λ e. other (deep ∙ long ∙ e ∙ sym count)) in
-      step-split path rest waiting kids best short
-      (are ∙ ap (λ (n : Node). children n.ranked.mill (orders_of n.ranked) n.path) is)
-      same from closed before
-    where
-      lt_of_le_ne : {m n : ℕ} → m ≤ n → m ≢ n → m < n
-      lt_of_le_ne {m} {n} le ne = elim (eq-or-lt_of_le le) [ inl e ↦ absurd (ne e) | inr l ↦ l ]
+    -- a leaf, by a plan that loses no more than it
+    pub leaf-closed : (best new : Start) → depth ≡ all →
+        IsPlanWithLoss (task_for problem charges) problem.orders new → new.loss ≤ best.loss →
+        new.loss ≤ loss (task_for problem charges).charge node.path
+        (task_for problem charges).ranked →
+        IsClosed (task_for problem charges) problem.orders path Leaf best new
+    leaf-closed best new full plan no_worse here =
+        let task = task_for problem charges in
+        let at_path : new.loss ≤ loss task.charge path task.ranked =
+        subst (λ (n : Node). new.loss ≤ loss task.charge n.path task.ranked) is here in
+        record {
+          is_sound =
+              and_from (eqb (length path) (length task.ranked))
+              (leb new.loss (loss task.charge path task.ranked))
+              (eq-eqb (length path) (length task.ranked)
+              (sym long ∙ full ∙ count ∙ sym same-count))
+              (le-leb new.loss (loss task.charge path task.ranked) at_path);
+          alone = refl;
+          fit = and_from (path_fits (length task.ranked) path) true fits-here refl;
+          inside = λ k d l. absurd (omega arith);
+          plan = plan;
+          no_worse = no_worse;
+        }
 
--- What a search that ends has found.
+    -- its children are those of the task
+    same-kids : (kids : List (List ℕ)) →
+        kids ≡ children node.ranked.mill (orders_of node.ranked) node.path →
+        kids ≡ children (mill_of problem) (ranked_orders problem.orders) path
+    same-kids kids are =
+        are ∙ ap (λ (n : Node). children n.ranked.mill (orders_of n.ranked) n.path) is
+        ∙ ap₂ (λ mill orders. children mill orders path) of.mill same-orders
 
--- where no path waits, no legal plan loses less
-pub ended : (problem : Problem) (charges : List ℕ) (from closed : ℕ) (best : Start)
-    (waiting : List (List ℕ)) → get_or charges 0 0 ≡ 0 →
-    IsSearched (task_for problem charges) problem.orders from best waiting closed →
-    waiting ≡ [] →
-    NoneLosesLess (mill_of problem) (λ load. get_or charges load 0) problem.orders best.loss
-ended problem charges from closed best waiting free searched none =
-    none-waits (mill_of problem) (λ load. get_or charges load 0) problem.orders from best closed
-    free
-    (subst (λ w. IsSearched (task_for problem charges) problem.orders from best w closed) none
-    searched)
-
--- where one does, the tree is larger than the budget that was spent
-pub not-ended : (problem : Problem) (charges : List ℕ) (from closed nodes : ℕ) (best : Start)
-    (waiting : List (List ℕ)) → nodes ≤ closed →
-    IsSearched (task_for problem charges) problem.orders from best waiting closed →
-    0 < length waiting → nodes < enough (length problem.orders)
-not-ended problem charges from closed nodes best waiting spent searched some =
-    let task = task_for problem charges in
-    let less : closed < tree_size task =
-    waits-less task problem.orders from best waiting closed some searched in
-    let few : tree_size task ≤ enough (length (ranked_orders problem.orders)) = tree-few task in
-    let same : length (ranked_orders problem.orders) ≡ length problem.orders =
-    length-map (rank problem.orders) (λ p. p.order) ∙ rank-length 0 problem.orders in
-    let most : enough (length (ranked_orders problem.orders)) ≡ enough (length problem.orders) =
-    ap enough same in
-    omega (arith, less, few, most, spent)
+    -- another path, by its children
+    pub split-closed : (kids : List (List ℕ)) (best : Start) →
+        depth ≤ length node.ranked.placed → depth ≢ all →
+        kids ≡ children node.ranked.mill (orders_of node.ranked) node.path →
+        All (λ kid. in_tree node.ranked.mill (orders_of node.ranked) kid ≡ true) kids →
+        IsPlanWithLoss (task_for problem charges) problem.orders best →
+        IsClosed (task_for problem charges) problem.orders path Split best best
+    split-closed kids best within other are tree plan = record {
+      is_sound = lt-ltb (length path) (length (ranked_orders problem.orders)) short;
+      alone = refl;
+      fit = and_from (path_fits (length (ranked_orders problem.orders)) path) true fits-here refl;
+      inside = subst (All (λ kid. in_tree (mill_of problem) (ranked_orders problem.orders) kid
+          ≡ true)) (same-kids kids are)
+          (λ k d l. sym (same-tree _) ∙ subst (λ (n : Node). All (λ kid. in_tree n.ranked.mill
+          (orders_of n.ranked) kid ≡ true) kids) is tree k d l);
+      plan = plan;
+      no_worse = omega arith;
+    }
+      where
+        short : length path < length (ranked_orders problem.orders)
+        short =
+            let size : length node.ranked.placed ≡ length ranked.placed =
+            ap (λ (n : Node). length n.ranked.placed) is in
+            omega (arith, long, within, size, same-count, count, other)

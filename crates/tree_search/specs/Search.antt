@@ -1,18 +1,22 @@
--- What a search through the tree of paths has found, and which paths still wait to be closed.
-use Rattle.std.specs.Prelude.{ℕ, ◌≡◌, ◌≤◌, ◌+◌, ◌-◌, ◌⊎◌, Bool, true, List, [], map}
-use Rattle.std.specs.Prelude.{length, take}
+-- What a search through the tree of paths has found: the best plan, the records of the paths that
+-- it closed, and the paths that are still to come.
+use Rattle.std.specs.Prelude.{ℕ, ◌≡◌, ◌≤◌, true, List, [], ◌∷◌, ◌++◌, length, reverse, All}
 use Rattle.std.specs.Prelude.{slice_index}
-use Rattle.std.specs.List.{list_all, list_any}
-use Rattle.mill_model.specs.Sets.{same_list}
+use Rattle.std.specs.List.{AllByRecursion, list_all}
+use Rattle.mill_model.specs.Conserved.{IsConserved}
 use Rattle.mill_model.specs.Instance.{Problem, mill_of}
+use Rattle.mill_model.specs.Log.{Task, sound, recorded, left_open, split_children, names_settled}
 use Rattle.mill_model.specs.Plan.{IsLegalPlan, loss}
+use Rattle.mill_model.specs.Sets.{same_list, SameTimes}
 use Rattle.mill_model.specs.Tree.{in_tree}
-use Rattle.mill_model.specs.Log.{Task}
-use Rattle.mill_model.specs.Size.{size, sum_list}
+use Rattle.mill_model.specs.declared.closing.Closing.{Closing}
+use Rattle.mill_model.specs.declared.closing.Entry.{Entry}
 use Rattle.mill_model.specs.declared.order.Order.{Order}
 use Rattle.mill_model.specs.declared.plan.Start.{Start}
 use Rattle.mill_laws.specs.LogLaws.{task_of}
-use Rattle.mill_laws.specs.TreeLaws.{IsLeaf}
+use Rattle.refute_log.specs.Fits.{fits}
+use Rattle.refute_log.specs.Rising.{rises}
+use Rattle.tree_search.specs.Turns.{ComeInTurn}
 
 -- a legal plan of the file's orders, with what it loses
 pub record IsPlanWithLoss (task : Task) (orders : List Order) (start : Start) : Type 0 where
@@ -24,41 +28,46 @@ abbrev pub task_for : Problem → List ℕ → Task
 task_for problem charges =
     task_of (mill_of problem) (λ load. slice_index charges load) problem.orders
 
--- a plan that loses at most what the best so far loses, and at most what a leaf loses
-pub record IsBetter (task : Task) (orders : List Order) (best : Start) (leaf : List ℕ) (new : Start)
-    : Type 0 where
+-- How a path of the tree is closed, where the best plan is another from then on: the record is
+-- sound for its loss and names no other path, and what it leaves open is in the tree.
+pub record IsClosed (task : Task) (orders : List Order) (path : List ℕ) (closing : Closing)
+    (best new : Start) : Type 0 where
+  pub is_sound : sound task new.loss path closing ≡ true
+  pub alone : names_settled [] closing ≡ true
+  pub fit : fits (length task.ranked) (record { path = path; closing = closing }) ≡ true
+  pub inside : All (λ child. in_tree task.mill task.ranked child ≡ true)
+      (left_open task path closing)
   pub plan : IsPlanWithLoss task orders new
-  pub better : new.loss ≤ best.loss
-  pub here : new.loss ≤ loss task.charge leaf task.ranked
+  pub no_worse : new.loss ≤ best.loss
 
--- whether a path stands at or below one of some paths, which is then a front of it
-abbrev pub stands_below : List (List ℕ) → List ℕ → Bool
-stands_below paths path = list_any (λ above. same_list above (take (length above) path)) paths
-
--- each leaf of the tree loses at least a bound, or stands below a path that waits
-abbrev pub Covers : Task → ℕ → List (List ℕ) → Type 0
-Covers task bound waiting =
-    (leaf : List ℕ) → IsLeaf task.mill task.ranked leaf →
-    (bound ≤ loss task.charge leaf task.ranked) ⊎ (stands_below waiting leaf ≡ true)
-
--- every path has children
-abbrev pub each_path : List ℕ → Bool
-each_path path = true
-
--- how many paths of the tree stand at or below a path of it
-abbrev pub size_below : Task → List ℕ → ℕ
-size_below task path = size task each_path (length task.ranked - length path) path
-
--- how many paths the tree has
-abbrev pub tree_size : Task → ℕ
-tree_size task = size task each_path (length task.ranked) []
-
--- What holds while the tree is searched from a start: the best plan so far, the paths that wait,
--- and how many were closed.
+-- What holds while the tree is searched from a start on: the best plan so far, the records of the
+-- closed paths, and the paths to come, the next one first.
 pub record IsSearched (task : Task) (orders : List Order) (from : ℕ) (best : Start)
-    (waiting : List (List ℕ)) (closed : ℕ) : Type 0 where
+    (log : List Entry) (coming : List (List ℕ)) : Type 0 where
   pub plan : IsPlanWithLoss task orders best
-  pub better : best.loss ≤ from
-  pub inside : list_all (in_tree task.mill task.ranked) waiting ≡ true
-  pub covers : Covers task best.loss waiting
-  pub count : closed + sum_list (map (size_below task) waiting) ≡ tree_size task
+  pub no_worse : best.loss ≤ from
+  pub conserved : SameTimes same_list (recorded log ++ coming) ([] ∷ split_children task log)
+  pub each_sound :
+      AllByRecursion (λ entry. sound task best.loss entry.path entry.closing ≡ true) log
+  pub each_alone : AllByRecursion (λ entry. names_settled [] entry.closing ≡ true) log
+  pub fit : list_all (fits (length task.ranked)) log ≡ true
+  pub inside : All (λ path. in_tree task.mill task.ranked path ≡ true) coming
+  pub rise : rises (recorded log ++ coming) ≡ true
+  pub turns : ComeInTurn coming
+
+-- a search that has closed so many paths, where those that wait, the next one last, are to come,
+-- with records that are kept
+pub record HasSearched (Kept : List Entry → Type 0) (task : Task) (orders : List Order) (from : ℕ)
+    (best : Start) (waiting : List (List ℕ)) (closed : ℕ) : Type 0 where
+  pub log : List Entry
+  pub kept : Kept log
+  pub count : length log ≡ closed
+  pub searched : IsSearched task orders from best log (reverse waiting)
+
+-- The records of so many closed paths, where some paths wait: the closed and the waiting paths are
+-- the empty path and the children of the split ones, and each record is sound for a loss.
+pub record IsRun (task : Task) (bound : ℕ) (waiting : List (List ℕ)) (closed : ℕ)
+    (log : List Entry) : Type 0 where
+  pub count : length log ≡ closed
+  pub conserved : IsConserved task (log ∷ []) waiting
+  pub each_sound : All (λ entry. sound task bound entry.path entry.closing ≡ true) log

@@ -1,11 +1,13 @@
-ghost use Rattle.std.specs.Prelude.{◌≡◌, ◌+◌, ◌∷◌, ◌++◌, [], ℕ, true, length, reverse, slice_index};
-ghost use Rattle.std.specs.Prelude.{vec_len, OnOk};
+ghost use Rattle.std.specs.Prelude.{◌≡◌, ◌+◌, ◌≤◌, ◌++◌, true, length, reverse};
+ghost use Rattle.std.specs.Prelude.{slice_index, IfOk, OnOk};
 ghost use Rattle.mill_model.specs.Instance.{largest};
+ghost use Rattle.mill_model.specs.Log.{left_open};
+ghost use Rattle.mill_model.specs.Plan.{loss};
 ghost use Rattle.mill_model.specs.Tree.{in_tree};
 ghost use Rattle.order_symmetry.specs.Ranked.{IsRankOf, orders_of};
-ghost use Rattle.tree_search.specs.Search.{IsSearched, IsPlanWithLoss, IsBetter, task_for};
+ghost use Rattle.tree_search.specs.Search.{IsClosed, IsPlanWithLoss, task_for};
 
-use mill_model::{Charges, Instance, OutOfMemory, Path, Start};
+use mill_model::{Charges, Closing, Instance, OutOfMemory, Path, Start};
 use order_symmetry::Ranked;
 use split_tree::NodeState;
 use std::alloc::Global;
@@ -29,15 +31,18 @@ fn keep_leaf(
     best: &mut Start,
 ) -> Result<(), OutOfMemory>
     requires ranked { IsRankOf instance.now node.now.ranked }
-    requires inside { in_tree node.now.ranked.mill (orders_of node.now.ranked) node.now.path ≡ true }
+    requires inside { in_tree node.now.ranked.mill (orders_of node.now.ranked) node.now.path
+        ≡ true }
     requires full { length node.now.path ≡ length node.now.ranked.placed }
     requires reach { length charges.now ≡ largest instance.now.sizes + 1 }
     requires free { slice_index charges.now 0 ≡ 0 }
-    ensures { OnOk result (
-        IsPlanWithLoss (task_for instance.now charges.now) instance.now.orders best.old
-        → IsBetter (task_for instance.now charges.now) instance.now.orders
-        best.old node.now.path best.new
-        ) }
+    requires best { IsPlanWithLoss (task_for instance.now charges.now) instance.now.orders
+        best.old }
+    ensures plan { OnOk result (
+        IsPlanWithLoss (task_for instance.now charges.now) instance.now.orders best.new) }
+    ensures no_worse { OnOk result (best.new.loss ≤ best.old.loss) }
+    ensures here { OnOk result (best.new.loss ≤ loss (task_for instance.now charges.now).charge
+        node.now.path (task_for instance.now charges.now).ranked) }
 {
     let loss = node.groups_loss(charges);
     if loss < best.loss {
@@ -49,8 +54,8 @@ fn keep_leaf(
     Ok(())
 }
 
-/// Closes a path, which waited last. A leaf is closed by its plan, and another path by its
-/// children, which wait from then on, that of the lowest last number last.
+/// Closes a path, and says how: a leaf by its plan, and another path by its children, which wait
+/// from then on, that of the lowest last number last.
 pub fn close(
     alloc: Global,
     instance: &Instance,
@@ -59,24 +64,24 @@ pub fn close(
     path: &Path,
     waiting: &mut Vec<Path>,
     best: &mut Start,
-) -> Result<(), OutOfMemory>
+) -> Result<Closing, OutOfMemory>
     requires ranked { IsRankOf instance.now ranked.now }
     requires inside { in_tree ranked.now.mill (orders_of ranked.now) path.now ≡ true }
     requires reach { length charges.now ≡ largest instance.now.sizes + 1 }
     requires free { slice_index charges.now 0 ≡ 0 }
-    ensures { OnOk result (
-        (from closed : ℕ)
-        → IsSearched (task_for instance.now charges.now) instance.now.orders from
-        best.old (waiting.old.items ++ path.now ∷ []) closed
-        → IsSearched (task_for instance.now charges.now) instance.now.orders from
-        best.new waiting.new.items (closed + 1)
-        ) }
+    requires best { IsPlanWithLoss (task_for instance.now charges.now) instance.now.orders
+        best.old }
+    ensures closed { IfOk result (λ closing.
+        IsClosed (task_for instance.now charges.now) instance.now.orders path.now closing
+        best.old best.new) }
+    ensures waiting { IfOk result (λ closing. waiting.new.items ≡ waiting.old.items
+        ++ reverse (left_open (task_for instance.now charges.now) path.now closing)) }
 {
     let node = NodeState::of(alloc, ranked, path)?;
     if node.depth() == ranked.len() {
         keep_leaf(alloc, instance, &node, charges, best)?;
-        return Ok(());
+        return Ok(Closing::Leaf);
     }
     put_first_last(node.children(alloc)?, waiting)?;
-    Ok(())
+    Ok(Closing::Split)
 }

@@ -1,11 +1,9 @@
-use Rattle.std.proofs.Common.{◌≡◌, ◌∙◌, length, ap, sym, subst, slice_index}
+use Rattle.std.proofs.Common.{◌≡◌, ◌∙◌, length, ap, sym, slice_index}
 use Rattle.mill_model.specs.Instance.{mill_of}
 use Rattle.mill_model.specs.Log.{Task}
 use Rattle.mill_laws.proofs.LogLaws.{refuted-loss-bounds}
 use Rattle.log_checker.specs.Setting.{task_of}
 use Rattle.log_checker.specs.Judged.{task_by}
-use Rattle.log_checker.specs.Verdict.{IsVerdict}
-use Rattle.log_checker.specs.declared.verdict.LogVerdict.{LogVerdict}
 use Rattle.log_checker.specs.declared.verdict.LogVerdict.TheVariants as verdicts
 use Rattle.log_checker.proofs.Unique.{verdict-given, verdict-only}
 use Rattle.log_checker.proofs.check.check_log.Goals as goal

@@ -6,12 +6,12 @@ use Rattle.std.specs.declared.cmp.Ordering.TheVariants as order
 use Rattle.log_checker.specs.declared.verdict.LogVerdict.TheVariants as verdicts
 use Rattle.log_checker.proofs.check.misplaced.Goals as goal
 
-pub returns-in_ok-to_vec-in-Less-clause-apart : goal.returns-in_ok-to_vec-in-Less-clause-apart
-returns-in_ok-to_vec-in-Less-clause-apart c =
+pub returns-in_ok-copy-in-Less-clause-apart : goal.returns-in_ok-copy-in-Less-clause-apart
+returns-in_ok-copy-in-Less-clause-apart c =
     let o : path_order c.args.path.now c.args.entry.now.path ≡ order.Less = search rules in
     let b : comes_before c.args.path.now c.args.entry.now.path ≡ true =
     order-before c.args.path.now c.args.entry.now.path o in
-    let v : c.from_list.result ≡ c.args.path.now = search rules in
+    let v : c.in_ok-copy-in-Less.field-0 ≡ c.args.path.now = search rules in
     (before-differs c.args.path.now c.args.entry.now.path b, rw b (ap (λ x. verdicts.Missing x) v))
 
 pub returns-in_ok-copy-in-Greater-clause-apart : goal.returns-in_ok-copy-in-Greater-clause-apart

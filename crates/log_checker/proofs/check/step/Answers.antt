@@ -10,13 +10,12 @@ returns-then-not-good-clause-found c =
     let t = task_by c.args.judge.now in
     let p : c.args.waiting.now.items ≡ c.pop.new.self.items ++ c.in-Some.wanted ∷ [] =
     search rules in
-    let v : c.deref.result.now ≡ c.in_ok-path-2.path.items = c.deref.ensures.value in
-    let s0 = rw c.in-None.is at c.in_ok-verdict.ensures.same in
-    let s : same_list c.in_ok-path-2.path.items c.index-log-i.result.path ≡ true = rw v at s0 in
+    let s : same_list c.in_ok-path-2.path c.index-log-i.result.path ≡ true =
+    rw c.in-None.is at c.in_ok-verdict.ensures.same in
     let h : holds_up t c.args.loss c.args.log.now c.index-log-i.result ≡ false =
     rw (← c.in_ok-good.ensures) (search rules) in
-    rw c.from_list.ensures (sym (step-unsound t c.args.loss c.args.log.now c.args.i
-    c.index-log-i.result c.in_ok-path-2.path.items c.args.waiting.now.items c.pop.new.self.items
+    (sym (step-unsound t c.args.loss c.args.log.now c.args.i
+    c.index-log-i.result c.in_ok-path-2.path c.args.waiting.now.items c.pop.new.self.items
     c.pop.new.self.items c.in-Some.wanted c.requires.here c.index-log-i.is p
     c.in_ok-path-2.ensures s h))
 
@@ -25,12 +24,11 @@ returns-clause-goes c =
     let t = task_by c.args.judge.now in
     let p : c.args.waiting.now.items ≡ c.pop.new.self.items ++ c.in-Some.wanted ∷ [] =
     search rules in
-    let v : c.deref.result.now ≡ c.in_ok-path-2.path.items = c.deref.ensures.value in
-    let s0 = rw c.in-None.is at c.in_ok-verdict.ensures.same in
-    let s : same_list c.in_ok-path-2.path.items c.index-log-i.result.path ≡ true = rw v at s0 in
+    let s : same_list c.in_ok-path-2.path c.index-log-i.result.path ≡ true =
+    rw c.in-None.is at c.in_ok-verdict.ensures.same in
     let h : holds_up t c.args.loss c.args.log.now c.index-log-i.result ≡ true =
     rw (← c.in_ok-good.ensures) (search rules) in
-    step-goes t c.args.loss c.args.log.now c.args.i c.index-log-i.result c.in_ok-path-2.path.items
+    step-goes t c.args.loss c.args.log.now c.args.i c.index-log-i.result c.in_ok-path-2.path
     c.args.waiting.now.items c.pop.new.self.items c.open.new.waiting.items c.in-Some.wanted
     c.requires.here c.index-log-i.is p c.in_ok-path-2.ensures s h c.in_ok-open.ensures
 
@@ -39,7 +37,7 @@ returns-clause-within c =
     let t = task_by c.args.judge.now in
     let p : c.args.waiting.now.items ≡ c.pop.new.self.items ++ c.in-Some.wanted ∷ [] =
     search rules in
-    step-within t c.args.loss c.args.log.now c.args.i c.index-log-i.result c.in_ok-path-2.path.items
+    step-within t c.args.loss c.args.log.now c.args.i c.index-log-i.result c.in_ok-path-2.path
     c.args.waiting.now.items c.pop.new.self.items c.open.new.waiting.items c.in-Some.wanted
     c.requires.here c.index-log-i.is p c.in_ok-path-2.ensures c.requires.within
     c.in_ok-open.ensures

@@ -1,10 +1,8 @@
-use Rattle.std.proofs.Common.{◌≡◌, ◌+◌, ◌-◌, ◌≤◌, ◌<◌, ℕ, length, get_or, arith, rules, drop}
-use Rattle.std.proofs.Common.{filter}
-use Rattle.std.proofs.Common.{replicate, ◌++◌, ◌∙◌, ap, take, refl, Bool, true, false}
+use Rattle.std.proofs.Common.{◌≡◌, ◌+◌, ◌≤◌, length, get_or, arith, drop}
+use Rattle.std.proofs.Common.{take, refl, Bool, true, false}
 use Rattle.std.proofs.lemmas.List.{take_all}
 use Rattle.std.proofs.lemmas.List.Sorted.{IsNonDecreasingBy-from_sort}
 use Rattle.mill_model.specs.LiveKey.{has_colour}
-use Rattle.log_checker.specs.Keys.{AreComing, comes_in}
 use Rattle.log_checker.proofs.ComingLemmas.{note-more, coming-from}
 use Rattle.log_checker.proofs.keys.coming_colours.Goals as goal
 

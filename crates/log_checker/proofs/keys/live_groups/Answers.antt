@@ -1,6 +1,6 @@
-use Rattle.std.proofs.Common.{◌≡◌, ◌∙◌, ◌++◌, ◌∷◌, [], sym, ap, ap₂, drop, map, filter, get_or, ℕ}
+use Rattle.std.proofs.Common.{◌∙◌, ◌++◌, ◌∷◌, [], sym, ap, ap₂, drop, map, filter, get_or, ℕ}
 use Rattle.std.proofs.Common.{Bool, cond}
-use Rattle.std.proofs.Common.{refl, append-nil, subst, All}
+use Rattle.std.proofs.Common.{append-nil, subst, All}
 use Rattle.std.proofs.lemmas.List.{map-append}
 use Rattle.std.proofs.lemmas.List.Elements.{All-push}
 use Rattle.mill_model.specs.Sets.{below}

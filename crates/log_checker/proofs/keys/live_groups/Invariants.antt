@@ -1,4 +1,4 @@
-use Rattle.std.proofs.Common.{◌≡◌, ◌<◌, length, All, drop, filter, map, slice_index_or}
+use Rattle.std.proofs.Common.{◌≡◌, All, drop, filter, map, slice_index_or}
 use Rattle.mill_model.specs.Sets.{below}
 use Rattle.log_checker.specs.Groups.{nothing_seen}
 use Rattle.log_checker.specs.Live.{lives}

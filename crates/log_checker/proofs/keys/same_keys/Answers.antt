@@ -1,7 +1,4 @@
-use Rattle.std.proofs.Common.{◌≡◌, refl, sym, List, [], ◌∷◌, length, suc, ap, arith, Bool, false}
-use Rattle.std.proofs.Common.{true, ℕ}
-use Rattle.log_checker.specs.Keys.{same_keys, same_key}
-use Rattle.log_checker.specs.declared.key.LiveGroup.{LiveGroup}
+use Rattle.std.proofs.Common.{sym}
 use Rattle.log_checker.proofs.KeyLemmas.{uneven}
 use Rattle.log_checker.proofs.keys.same_keys.Goals as goal
 

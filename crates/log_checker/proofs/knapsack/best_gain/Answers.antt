@@ -1,10 +1,10 @@
-use Rattle.std.proofs.Common.{◌≡◌, ℕ, suc, ◌+◌, ◌*◌, ◌≤◌, ◌<◌, ◌∙◌, length, get_or, slice_index}
-use Rattle.std.proofs.Common.{pos, neg_ℤ}
-use Rattle.std.proofs.Common.{SFits, w64, to_z-of_z, to_z, of_z, rules, arith, sym, subst, ap, refl}
-use Rattle.set_minima.specs.Packs.{IsTop, better, with_price}
+use Rattle.std.proofs.Common.{◌≡◌, suc, ◌+◌, ◌*◌, length, get_or, slice_index}
+use Rattle.std.proofs.Common.{pos}
+use Rattle.std.proofs.Common.{SFits, w64, to_z-of_z, to_z, rules, arith, sym, subst}
+use Rattle.set_minima.specs.Packs.{IsTop}
 use Rattle.set_minima.specs.Joins.{gain, Packed}
-use Rattle.set_minima.proofs.Gains.{gain-none, gain-more}
-use Rattle.log_checker.specs.Tables.{cell, found, IsNear}
+use Rattle.set_minima.proofs.Gains.{gain-more}
+use Rattle.log_checker.specs.Tables.{cell, found}
 use Rattle.log_checker.proofs.Numbers.{near-wider}
 use Rattle.log_checker.proofs.knapsack.best_gain.Goals as goal
 

@@ -1,22 +1,22 @@
-use Rattle.std.proofs.Common.{◌≡◌, ℕ, zero, suc, ◌+◌, ◌*◌, ◌≤◌, ◌<◌, ◌∙◌, length, get_or, pos}
-use Rattle.std.proofs.Common.{arith, sym, subst}
-use Rattle.std.proofs.Common.{ap, refl, Option, Some, None}
+use Rattle.std.proofs.Common.{◌≡◌, ℕ, zero, suc, ◌+◌, ◌<◌, ◌∙◌, length}
+use Rattle.std.proofs.Common.{sym, subst}
+use Rattle.std.proofs.Common.{refl}
 use Rattle.mill_model.specs.Sets.{different}
 use Rattle.set_minima.specs.Packs.{IsBest}
 use Rattle.set_minima.proofs.OneColour.{layer-spread, table-none, table-empty}
 use Rattle.log_checker.specs.Tables.{cell, found, owned, no_place}
-use Rattle.log_checker.proofs.Numbers.{near-wider}
 use Rattle.log_checker.proofs.knapsack.fill_layers.Goals as goal
 
 pub returns-clause-best : goal.returns-clause-best
 returns-clause-best c =
-    let rest = c.args.rest.now in
-    let prices = c.args.prices.now in
+    let rest = c.args.stock.now.rest.now in
+    let prices = c.args.stock.now.prices.now in
     let own = c.args.own.now in
     let few = different own in
-    let w : length c.add_own.new.table ≡ length c.args.table.now = c.add_own.auto.table in
-    let start = λ (l : ℕ) (b : l < length c.args.table.now). first l b in
-    let best = c.add_own.ensures.best few start in
+    let w : length c.add_own.new.table ≡ length c.args.table.now =
+    c.add_own.auto.table ∙ c.clear.auto.table in
+    let v : length c.clear.new.table ≡ length c.args.table.now = c.clear.auto.table in
+    let best = rw v at (c.add_own.ensures.best few first) in
     let spread = rw w at c.spread_layer.ensures.is in
     let all = rw w at c.add_colours.ensures.best in
     all few refl (λ t a l b. subst (λ x. IsBest (owned rest own) own (few + t) rest prices l
@@ -25,13 +25,14 @@ returns-clause-best c =
     (layer-spread rest (owned rest own) own prices few t l (cell c.add_own.new.table l) refl
     (λ i h. h) (best l b)))
   where
-    first : (l : ℕ) → l < length c.args.table.now →
-        IsBest no_place c.args.own.now (different c.args.own.now) c.args.rest.now c.args.prices.now
-        l
-        (cell c.args.table.now l)
+    first : (l : ℕ) → l < length c.clear.new.table →
+        IsBest no_place c.args.own.now (different c.args.own.now) c.args.stock.now.rest.now
+        c.args.stock.now.prices.now l (cell c.clear.new.table l)
     first zero b =
-        rw c.requires.first (table-empty c.args.rest.now no_place c.args.own.now c.args.prices.now
+        rw c.clear.ensures.first (table-empty c.args.stock.now.rest.now no_place c.args.own.now
+        c.args.stock.now.prices.now
         (λ i. refl) (different c.args.own.now) refl)
     first (suc l) b =
-        rw (c.requires.others l b) (table-none c.args.rest.now no_place c.args.own.now
-        c.args.prices.now (λ i. refl) (different c.args.own.now) l)
+        rw (c.clear.ensures.others l b) (table-none c.args.stock.now.rest.now no_place
+        c.args.own.now
+        c.args.stock.now.prices.now (λ i. refl) (different c.args.own.now) l)

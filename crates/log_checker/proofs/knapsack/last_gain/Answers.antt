@@ -1,4 +1,4 @@
-use Rattle.std.proofs.Common.{◌≡◌, ◌-◌, ◌≤◌, length, take, drop, arith, SFits, w64, to_z-of_z}
+use Rattle.std.proofs.Common.{◌≡◌, ◌-◌, length, take, drop, arith, SFits, w64, to_z-of_z}
 use Rattle.std.proofs.Common.{rules}
 use Rattle.std.proofs.lemmas.List.{take_all, length-drop}
 use Rattle.log_checker.proofs.knapsack.last_gain.Goals as goal

@@ -1,7 +1,5 @@
-use Rattle.std.proofs.Common.{◌≡◌, ℕ, ◌+◌, ◌-◌, ◌*◌, ◌<◌, ◌≤◌, ◌∙◌, length, get_or, pos, arith, inl}
-use Rattle.std.proofs.Common.{sym}
-use Rattle.std.proofs.Common.{mul-le-mul_right, subst}
-use Rattle.log_checker.specs.Tables.{IsNear}
+use Rattle.std.proofs.Common.{◌≡◌, ℕ, ◌+◌, ◌-◌, ◌*◌, ◌≤◌, ◌∙◌, length, get_or, pos, arith, inl}
+use Rattle.std.proofs.Common.{mul-le-mul_right}
 use Rattle.log_checker.proofs.Numbers.{near-wider}
 use Rattle.log_checker.proofs.LayerLemmas.{done-raised, done-last}
 use Rattle.log_checker.proofs.layers.add_colour.Goals as goal
@@ -43,7 +41,8 @@ loop-t-preserved c =
     let t = c.loop-t.t - 1 in
     record {
       done = λ own colour few count run layered.
-          done-raised c.args.rest.now c.args.prices.now c.args.items.now own c.args.run.0
+          done-raised c.args.stock.now.rest.now c.args.stock.now.prices.now
+          c.args.stock.now.items.now own c.args.run.0
           c.args.run.1 colour few c.args.layers (length c.args.table.now) count run
           c.args.tables.now layered c.loop-t.t t (omega (arith, c.loop-t-test.true))
           (omega (arith, c.loop-t-test.true)) (omega (arith, c.loop-t.auto.t)) c.loop-t.tables
@@ -63,7 +62,8 @@ loop-t-preserved c =
 
 pub returns-clause-best : goal.returns-clause-best
 returns-clause-best c own colour few count run layered =
-    done-last c.args.rest.now c.args.prices.now c.args.items.now own c.args.run.0 c.args.run.1
+    done-last c.args.stock.now.rest.now c.args.stock.now.prices.now c.args.stock.now.items.now own
+    c.args.run.0 c.args.run.1
     colour few c.args.layers (length c.args.table.now) count run c.args.tables.now layered
     c.loop-t.tables c.loop-t.t (omega (arith, c.loop-t-test.false))
     (c.loop-t.invariant.done own colour few count run layered) c.loop-t.invariant.old

@@ -1,18 +1,18 @@
 use Rattle.std.proofs.Common.{◌≡◌, ℕ, List, ◌+◌, ◌-◌, ◌*◌, ◌<◌, ◌≤◌, length, pos, slice_index_or}
 use Rattle.mill_model.specs.Sets.{different}
-use Rattle.set_minima.specs.Packs.{IsTable}
-use Rattle.log_checker.specs.Tables.{cell, AreNear, AreLayers, let_in, IsRun}
+use Rattle.log_checker.specs.Tables.{cell, AreNear}
+use Rattle.log_checker.specs.Stocked.{let_to, IsRunOf, IsTableOf, AreLayersOf}
 use Rattle.log_checker.proofs.layers.add_colour.Given as goal
 
 abbrev pub invariant-loop-t : goal.invariant-loop-t
 invariant-loop-t l = record {
   done :
       (own : List ℕ) (colour few : ℕ) → few ≡ different own →
-      IsRun l.rest l.items own l.run.0 l.run.1 colour →
-      AreLayers (let_in l.rest l.items own l.run.0) own few l.rest l.prices l.layers
+      IsRunOf l.stock own l.run.0 l.run.1 colour →
+      AreLayersOf l.stock (let_to l.stock own l.run.0) own few l.layers
       (length l.initial.table) l.initial.tables →
       (s : ℕ) → l.t ≤ s → s < l.layers →
-      IsTable (let_in l.rest l.items own l.run.1) own (few + s) l.rest l.prices
+      IsTableOf l.stock (let_to l.stock own l.run.1) own (few + s)
       (length l.initial.table) (λ i. cell l.tables (s * length l.initial.table + i));
   old :
       (i : ℕ) → i < l.t * length l.initial.table →

@@ -1,8 +1,7 @@
-use Rattle.std.proofs.Common.{◌≡◌, ℕ, ◌+◌, ◌*◌, ◌<◌, ◌≤◌, ◌∙◌, length, get_or, pos, arith, sym}
-use Rattle.std.proofs.Common.{subst}
-use Rattle.mill_model.specs.Sets.{different}
-use Rattle.log_checker.specs.Tables.{cell, item_at, let_in, owned, AreLayers, IsStretch}
+use Rattle.std.proofs.Common.{◌≡◌, ◌+◌, ◌*◌, length, get_or, pos, arith}
+use Rattle.log_checker.specs.Tables.{cell, IsStretch}
 use Rattle.set_minima.specs.Joins.{all_places}
+use Rattle.log_checker.specs.Stocked.{let_to, own_of}
 use Rattle.log_checker.proofs.Numbers.{near-wider}
 use Rattle.log_checker.proofs.ItemLemmas.{stretch-from, before-end, first-let_in, all-let_in}
 use Rattle.log_checker.proofs.ItemLemmas.{table-allowed}
@@ -10,7 +9,8 @@ use Rattle.log_checker.proofs.layers.add_colours.Goals as goal
 
 pub add_next-requires-clause-stretch : goal.add_next-requires-clause-stretch
 add_next-requires-clause-stretch c =
-    stretch-from c.args.rest.now c.args.items.now c.requires.stock.sorted c.loop-at.at
+    stretch-from c.args.stock.now.rest.now c.args.stock.now.items.now c.requires.stock.sorted
+    c.loop-at.at
     c.run_end-end.result c.run_end-end.ensures.some c.run_end-end.ensures.ends
     (c.loop-at.invariant.border c.loop-at-test.true) c.run_end-end.ensures.alike
     c.run_end-end.ensures.other
@@ -20,10 +20,12 @@ loop-at-init c = record {
   inside = omega arith;
   border = λ h s b. absurd (omega arith);
   best = λ few e p t b.
-      table-allowed c.args.rest.now c.args.prices.now (owned c.args.rest.now c.args.own.now)
-      (let_in c.args.rest.now c.args.items.now c.args.own.now 0) c.args.own.now (few + t)
+      table-allowed c.args.stock.now.rest.now c.args.stock.now.prices.now (own_of c.args.stock.now
+      c.args.own.now)
+      (let_to c.args.stock.now c.args.own.now 0) c.args.own.now (few + t)
       (length c.args.table.now) (λ l. cell c.args.tables.now (t * length c.args.table.now + l))
-      (λ i h. first-let_in c.args.rest.now c.args.items.now c.args.own.now i) (p t b);
+      (λ i h. first-let_in c.args.stock.now.rest.now c.args.stock.now.items.now c.args.own.now i)
+      (p t b);
   near = λ l. near-wider 20480000000000 (20480000000000 + 0 * 184320000000000)
       (get_or c.args.tables.now l (pos 0)) (omega arith) (c.requires.near l);
 }
@@ -37,8 +39,9 @@ add_next-requires-clause-near c l =
 
 pub loop-at-preserved : goal.loop-at-preserved
 loop-at-preserved c =
-    let run : IsStretch c.args.items.now c.loop-at.at c.run_end-end.result =
-    stretch-from c.args.rest.now c.args.items.now c.requires.stock.sorted c.loop-at.at
+    let run : IsStretch c.args.stock.now.items.now c.loop-at.at c.run_end-end.result =
+    stretch-from c.args.stock.now.rest.now c.args.stock.now.items.now c.requires.stock.sorted
+    c.loop-at.at
     c.run_end-end.result c.run_end-end.ensures.some c.run_end-end.ensures.ends
     (c.loop-at.invariant.border c.loop-at-test.true) c.run_end-end.ensures.alike
     c.run_end-end.ensures.other in
@@ -46,7 +49,7 @@ loop-at-preserved c =
     let best = rw w at c.add_next.ensures.best in
     record {
       inside = c.run_end-end.ensures.ends;
-      border = before-end c.args.items.now c.loop-at.at c.run_end-end.result run;
+      border = before-end c.args.stock.now.items.now c.loop-at.at c.run_end-end.result run;
       best = λ few e p. best few e (c.loop-at.invariant.best few e p);
       near = λ l.
           near-wider (20480000000000 + c.loop-at.at * 184320000000000 + 184320000000000)
@@ -58,11 +61,12 @@ loop-at-preserved c =
 
 pub returns-clause-best : goal.returns-clause-best
 returns-clause-best c few e p t b =
-    table-allowed c.args.rest.now c.args.prices.now
-    (let_in c.args.rest.now c.args.items.now c.args.own.now c.loop-at.at) all_places
+    table-allowed c.args.stock.now.rest.now c.args.stock.now.prices.now
+    (let_to c.args.stock.now c.args.own.now c.loop-at.at) all_places
     c.args.own.now (few + t) (length c.args.table.now)
     (λ l. cell c.loop-at.tables (t * length c.args.table.now + l))
-    (λ i h. all-let_in c.args.rest.now c.args.items.now c.requires.stock.sorted c.args.own.now
+    (λ i h. all-let_in c.args.stock.now.rest.now c.args.stock.now.items.now c.requires.stock.sorted
+    c.args.own.now
     c.loop-at.at i (omega (arith, c.loop-at-test.false)) h)
     (c.loop-at.invariant.best few e p t b)
 

@@ -1,8 +1,7 @@
-use Rattle.std.proofs.Common.{◌≡◌, ℕ, suc, ◌+◌, ◌-◌, ◌*◌, ◌<◌, ◌≤◌, ◌∷◌, length, get_or, pos, arith}
+use Rattle.std.proofs.Common.{◌≡◌, ℕ, suc, ◌+◌, ◌-◌, ◌*◌, ◌<◌, length, get_or, pos, arith}
 use Rattle.std.proofs.Common.{sym, ap}
-use Rattle.std.proofs.Common.{◌∙◌, subst, mul-le-mul_right}
-use Rattle.std.specs.Int.{int_max}
-use Rattle.set_minima.specs.Packs.{better, IsBest, IsTable}
+use Rattle.std.proofs.Common.{◌∙◌, subst}
+use Rattle.set_minima.specs.Packs.{better, IsBest}
 use Rattle.set_minima.proofs.OneColour.{layer-start, layer-end}
 use Rattle.log_checker.specs.Tables.{cell, found, let_in}
 use Rattle.log_checker.proofs.Numbers.{found-max}
@@ -14,10 +13,10 @@ returns-clause-best c own colour k run below here l b =
     let width = length c.args.table.now in
     let n1 : length c.copy_layer.new.table ≡ width = c.copy_layer.auto.table in
     let n2 : length c.add_run.new.table ≡ length c.copy_layer.new.table = c.add_run.auto.table in
-    let rest = c.args.rest.now in
-    let prices = c.args.prices.now in
-    let before = let_in rest c.args.items.now own c.args.run.0 in
-    let after = let_in rest c.args.items.now own c.args.run.1 in
+    let rest = c.args.stock.now.rest.now in
+    let prices = c.args.stock.now.prices.now in
+    let before = let_in rest c.args.stock.now.items.now own c.args.run.0 in
+    let after = let_in rest c.args.stock.now.items.now own c.args.run.1 in
     let e : cell c.better_layer.new.tables (c.args.t * width + l)
     ≡ better (cell c.args.tables.now (c.args.t * width + l)) (cell c.add_run.new.table l) =
     ap found (c.better_layer.ensures.here l (omega arith))

@@ -1,6 +1,6 @@
-use Rattle.std.proofs.Common.{◌≡◌, ◌+◌, ◌*◌, ◌<◌, ◌≤◌, ◌∙◌, ◌⊎◌, ◌++◌, ◌∷◌, [], ℕ, ℤ, pos, length}
+use Rattle.std.proofs.Common.{◌≡◌, ◌+◌, ◌*◌, ◌∙◌, ◌++◌, ◌∷◌, [], ℤ, pos, length}
 use Rattle.std.proofs.Common.{length-append, All, slice_index, get_or, subst}
-use Rattle.std.proofs.Common.{ap, sym, arith, inl, inr, to_z, w64, rules}
+use Rattle.std.proofs.Common.{ap, sym, arith, inl, inr, to_z, w64}
 use Rattle.std.proofs.lemmas.Bool.{cases_lt}
 use Rattle.std.proofs.lemmas.Int.{ints}
 use Rattle.std.proofs.lemmas.List.{get_or_default, get_or_push, get_or_append_left}

@@ -1,4 +1,4 @@
-use Rattle.std.proofs.Common.{◌≡◌, ◌+◌, ◌*◌, ◌<◌, ◌∷◌, ◌∙◌, ◌+ℤ◌, length, drop, get_or, pos, arith}
+use Rattle.std.proofs.Common.{◌≡◌, ◌+◌, ◌∷◌, ◌∙◌, ◌+ℤ◌, drop, get_or, pos, arith}
 use Rattle.std.proofs.Common.{ap, SFits, w64}
 use Rattle.std.proofs.Common.{to_z, to_z-of_z, rules, ℤ}
 use Rattle.std.proofs.lemmas.Int.{ints}

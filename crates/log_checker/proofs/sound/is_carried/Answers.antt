@@ -1,11 +1,14 @@
-use Rattle.std.proofs.Common.{◌≤◌, ◌&&◌, length, ap, ◌∙◌, arith, leb, slice_index, get_or}
+use Rattle.std.proofs.Common.{◌≡◌, ◌≤◌, ◌∙◌, true, false, length, drop, arith}
+use Rattle.std.proofs.Common.{ℕ, slice_index, get_or, refl}
 use Rattle.mill_model.specs.Plan.{slab}
-use Rattle.log_checker.specs.Groups.{nothing_seen}
-use Rattle.log_checker.proofs.PriceLemmas.{seen-once}
+use Rattle.mill_model.specs.LiveKey.{same_live_key, dead_loss}
 use Rattle.mill_model.specs.Tree.{next_new}
+use Rattle.log_checker.specs.Groups.{nothing_seen}
 use Rattle.log_checker.specs.Judged.{mill_by}
+use Rattle.log_checker.specs.Live.{same_live_seen}
+use Rattle.log_checker.proofs.PriceLemmas.{seen-once}
 use Rattle.log_checker.proofs.StepLemmas.{numbers-few}
-use Rattle.log_checker.proofs.LiveLemmas.{carried-is}
+use Rattle.log_checker.proofs.LiveLemmas.{key-seen, dead-is}
 use Rattle.log_checker.proofs.sound.is_carried.Goals as goal
 
 pub dead_charge-dead-requires-clause-few : goal.dead_charge-dead-requires-clause-few
@@ -28,18 +31,6 @@ dead_charge-other_dead-requires-clause-few c =
       c.args.judge.now.setting.few,
     ))
 
-pub returns : goal.returns
-returns c =
-    let d = rw c.deref-3.ensures.value at c.dead_charge-dead.ensures in
-    let o = rw c.deref-4.ensures.value at c.dead_charge-other_dead.ensures in
-    let s = rw (c.deref.ensures.value, c.deref-2.ensures.value) at c.in_ok-same.ensures in
-    c.both-yes.ensures ∙ ap (λ x. x && leb c.dead_charge-other_dead.result
-    c.dead_charge-dead.result) s ∙ carried-is (mill_by c.args.judge.now) (λ l.
-    slice_index c.args.judge.now.charges.items l) c.args.judge.now.ranked.items
-    c.in_ok-groups.groups.items c.in_ok-others.others.items c.args.path.now c.args.other.now
-    c.dead_charge-dead.result c.dead_charge-other_dead.result c.in_ok-groups.ensures
-    c.in_ok-others.ensures c.requires.same d o
-
 pub same_live-requires-clause-first_once : goal.same_live-requires-clause-first_once
 same_live-requires-clause-first_once c g =
     rw c.deref.ensures.value (seen-once (get_or c.in_ok-groups.groups.items g nothing_seen)
@@ -49,3 +40,44 @@ pub same_live-requires-clause-second_once : goal.same_live-requires-clause-secon
 same_live-requires-clause-second_once c g =
     rw c.deref-2.ensures.value (seen-once (get_or c.in_ok-others.others.items g nothing_seen)
     (slab g c.args.other.now c.args.judge.now.ranked.items) (c.in_ok-others.ensures.seen g))
+
+pub returns-then-not-branch : goal.returns-then-not-branch
+returns-then-not-branch c =
+    let mill = mill_by c.args.judge.now in
+    let ranked = c.args.judge.now.ranked.items in
+    let s : c.in_ok-same_live.field-0 ≡ same_live_seen mill (drop (length c.args.path.now) ranked)
+    c.in_ok-groups.groups.items c.in_ok-others.others.items =
+    rw (c.deref.ensures.value, c.deref-2.ensures.value) at c.in_ok-same_live.ensures in
+    let k : same_live_seen mill (drop (length c.args.path.now) ranked) c.in_ok-groups.groups.items
+    c.in_ok-others.others.items ≡ same_live_key mill ranked c.args.path.now c.args.other.now =
+    key-seen mill ranked c.in_ok-groups.groups.items c.in_ok-others.others.items
+    c.args.path.now c.args.other.now c.in_ok-groups.ensures c.in_ok-others.ensures
+    c.requires.same in
+    let key : same_live_key mill ranked c.args.path.now c.args.other.now ≡ false =
+    rw (← k, ← s) c.if-not-branch.true in
+    rw key refl
+
+pub returns : goal.returns
+returns c =
+    let mill = mill_by c.args.judge.now in
+    let ranked = c.args.judge.now.ranked.items in
+    let charge : ℕ → ℕ = λ l. slice_index c.args.judge.now.charges.items l in
+    let s : c.in_ok-same_live.field-0 ≡ same_live_seen mill (drop (length c.args.path.now) ranked)
+    c.in_ok-groups.groups.items c.in_ok-others.others.items =
+    rw (c.deref.ensures.value, c.deref-2.ensures.value) at c.in_ok-same_live.ensures in
+    let k : same_live_seen mill (drop (length c.args.path.now) ranked) c.in_ok-groups.groups.items
+    c.in_ok-others.others.items ≡ same_live_key mill ranked c.args.path.now c.args.other.now =
+    key-seen mill ranked c.in_ok-groups.groups.items c.in_ok-others.others.items
+    c.args.path.now c.args.other.now c.in_ok-groups.ensures c.in_ok-others.ensures
+    c.requires.same in
+    let key : same_live_key mill ranked c.args.path.now c.args.other.now ≡ true =
+    rw (← k, ← s) c.if-not-branch.false in
+    let d : c.dead_charge-dead.result ≡ dead_loss mill charge ranked c.args.path.now =
+    rw c.deref-3.ensures.value at c.dead_charge-dead.ensures
+    ∙ dead-is mill charge ranked c.in_ok-groups.groups.items c.args.path.now
+    (length c.args.path.now) c.in_ok-groups.ensures refl in
+    let o : c.dead_charge-other_dead.result ≡ dead_loss mill charge ranked c.args.other.now =
+    rw c.deref-4.ensures.value at c.dead_charge-other_dead.ensures
+    ∙ dead-is mill charge ranked c.in_ok-others.others.items c.args.other.now
+    (length c.args.path.now) c.in_ok-others.ensures c.requires.same in
+    rw (key, d, o) refl

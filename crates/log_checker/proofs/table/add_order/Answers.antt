@@ -1,7 +1,7 @@
 use Rattle.std.proofs.Common.{◌≡◌, ℕ, ◌+◌, ◌-◌, ◌≤◌, ◌∙◌, ap, refl, inl, inr, get_or, pos, SFits}
 use Rattle.std.proofs.Common.{w64, to_z-of_z, rules, arith}
 use Rattle.std.proofs.lemmas.Bool.{cases_lt}
-use Rattle.log_checker.specs.Tables.{found, IsNear}
+use Rattle.log_checker.specs.Tables.{found}
 use Rattle.log_checker.proofs.Numbers.{near-wider}
 use Rattle.log_checker.proofs.TableSteps.{entry-done, entry-old, entry-near, light-stays}
 use Rattle.log_checker.proofs.table.add_order.Goals as goal

@@ -1,5 +1,6 @@
-use Rattle.std.proofs.Common.{◌≡◌, ◌+◌, ◌*◌, ◌≤◌, length, get_or, pos, arith, sym}
-use Rattle.log_checker.specs.Tables.{cell, own_placed, owned, no_place}
+use Rattle.std.proofs.Common.{◌≡◌, ◌+◌, ◌*◌, length, get_or, pos, arith, sym}
+use Rattle.log_checker.specs.Tables.{cell, no_place}
+use Rattle.log_checker.specs.Stocked.{own_to, own_of}
 use Rattle.log_checker.proofs.Numbers.{near-wider}
 use Rattle.log_checker.proofs.ItemLemmas.{none-own, all-own, table-allowed, table-width}
 use Rattle.log_checker.proofs.table.add_own.Goals as goal
@@ -12,10 +13,10 @@ consider-requires-clause-near c l =
 pub loop-t-init : goal.loop-t-init
 loop-t-init c = record {
   best = λ k p.
-      table-allowed c.args.rest.now c.args.prices.now no_place
-      (own_placed c.args.rest.now c.args.items.now c.args.own.now 0) c.args.own.now k
+      table-allowed c.args.stock.now.rest.now c.args.stock.now.prices.now no_place
+      (own_to c.args.stock.now c.args.own.now 0) c.args.own.now k
       (length c.args.table.now) (cell c.args.table.now)
-      (λ i b. none-own c.args.rest.now c.args.items.now c.args.own.now i) p;
+      (λ i b. none-own c.args.stock.now.rest.now c.args.stock.now.items.now c.args.own.now i) p;
   near = λ l. near-wider 0 (0 * 20000000000) (get_or c.args.table.now l (pos 0)) (omega arith)
       (c.requires.near l);
 }
@@ -25,11 +26,12 @@ loop-t-preserved c = record {
   best = λ k p.
       let t = c.loop-t.t in
       let w : length c.loop-t.table ≡ length c.args.table.now = c.loop-t.auto.table in
-      let now = own_placed c.args.rest.now c.args.items.now c.args.own.now t in
-      let then = own_placed c.args.rest.now c.args.items.now c.args.own.now (t + 1) in
-      table-width c.args.rest.now c.args.prices.now then c.args.own.now k
+      let now = own_to c.args.stock.now c.args.own.now t in
+      let then = own_to c.args.stock.now c.args.own.now (t + 1) in
+      table-width c.args.stock.now.rest.now c.args.stock.now.prices.now then c.args.own.now k
       (length c.loop-t.table) (length c.args.table.now) (cell c.consider.new.table) w
-      (c.consider.ensures.best k (table-width c.args.rest.now c.args.prices.now now
+      (c.consider.ensures.best k (table-width c.args.stock.now.rest.now c.args.stock.now.prices.now
+      now
       c.args.own.now k (length c.args.table.now) (length c.loop-t.table) (cell c.loop-t.table)
       (sym w) (c.loop-t.invariant.best k p)));
   near = λ l.
@@ -40,11 +42,12 @@ loop-t-preserved c = record {
 
 pub returns-clause-best : goal.returns-clause-best
 returns-clause-best c k p =
-    table-allowed c.args.rest.now c.args.prices.now
-    (own_placed c.args.rest.now c.args.items.now c.args.own.now c.loop-t.t)
-    (owned c.args.rest.now c.args.own.now) c.args.own.now k (length c.args.table.now)
+    table-allowed c.args.stock.now.rest.now c.args.stock.now.prices.now
+    (own_to c.args.stock.now c.args.own.now c.loop-t.t)
+    (own_of c.args.stock.now c.args.own.now) c.args.own.now k (length c.args.table.now)
     (cell c.loop-t.table)
-    (λ i b. all-own c.args.rest.now c.args.items.now c.requires.stock.sorted c.args.own.now
+    (λ i b. all-own c.args.stock.now.rest.now c.args.stock.now.items.now c.requires.stock.sorted
+    c.args.own.now
     c.loop-t.t i (omega (arith, c.loop-t-test.false)) b) (c.loop-t.invariant.best k p)
 
 pub returns-clause-near : goal.returns-clause-near

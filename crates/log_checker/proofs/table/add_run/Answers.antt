@@ -1,10 +1,11 @@
-use Rattle.std.proofs.Common.{true, ◌≡◌, ℕ, ◌+◌, ◌-◌, ◌*◌, ◌<◌, ◌≤◌, ◌∷◌, false, get_or, pos}
+use Rattle.std.proofs.Common.{true, ◌≡◌, ◌+◌, ◌-◌, ◌*◌, ◌∷◌, false, get_or, pos}
 use Rattle.std.proofs.Common.{length, arith, subst}
-use Rattle.std.proofs.Common.{sym, ◌∙◌, eq-eqb, eqb, refl}
+use Rattle.std.proofs.Common.{sym, eq-eqb, eqb, refl}
 use Rattle.mill_model.specs.Sets.{holds}
 use Rattle.mill_model.proofs.Different.{or-left}
-use Rattle.set_minima.specs.Packs.{colour_at, IsTable}
-use Rattle.log_checker.specs.Tables.{cell, item_at, let_in, IsRun, IsNear}
+use Rattle.set_minima.specs.Packs.{colour_at}
+use Rattle.log_checker.specs.Tables.{cell, item_at}
+use Rattle.log_checker.specs.Stocked.{let_to, IsTableOf}
 use Rattle.log_checker.proofs.Numbers.{near-wider}
 use Rattle.log_checker.proofs.ItemLemmas.{next-let_in, table-width}
 use Rattle.log_checker.proofs.table.add_run.Goals as goal
@@ -28,21 +29,25 @@ pub loop-t-preserved : goal.loop-t-preserved
 loop-t-preserved c = record {
   best = λ own colour k run p.
       let t = c.loop-t.t in
-      let a : colour_at c.args.rest.now (item_at c.args.items.now t).place ≡ colour =
+      let a : colour_at c.args.stock.now.rest.now (item_at c.args.stock.now.items.now t).place ≡
+      colour =
       run.alike t c.loop-t.auto.t c.loop-t-test.true in
-      let n : holds (colour_at c.args.rest.now (item_at c.args.items.now t).place) own ≡ false =
+      let n : holds (colour_at c.args.stock.now.rest.now (item_at c.args.stock.now.items.now
+      t).place) own ≡ false =
       rw a run.not_own in
-      let paid : holds (colour_at c.args.rest.now (item_at c.args.items.now t).place) (colour ∷ own)
+      let paid : holds (colour_at c.args.stock.now.rest.now (item_at c.args.stock.now.items.now
+      t).place) (colour ∷ own)
       ≡ true = subst (λ x. holds x (colour ∷ own) ≡ true) (sym a)
       (or-left (eqb colour colour) (holds colour own) (eq-eqb colour colour refl)) in
       let w : length c.loop-t.table ≡ length c.args.table.now = c.loop-t.auto.table in
-      let now = let_in c.args.rest.now c.args.items.now own t in
-      let then = let_in c.args.rest.now c.args.items.now own (t + 1) in
-      table-width c.args.rest.now c.args.prices.now then (colour ∷ own) k
+      let now = let_to c.args.stock.now own t in
+      let then = let_to c.args.stock.now own (t + 1) in
+      table-width c.args.stock.now.rest.now c.args.stock.now.prices.now then (colour ∷ own) k
       (length c.loop-t.table) (length c.args.table.now) (cell c.add_item.new.table) w
       (c.add_item.ensures.best now then (colour ∷ own) k
-      (next-let_in c.args.rest.now c.args.items.now c.requires.stock.sorted own t (omega arith) n)
-      paid (table-width c.args.rest.now c.args.prices.now now (colour ∷ own) k
+      (next-let_in c.args.stock.now.rest.now c.args.stock.now.items.now c.requires.stock.sorted own
+      t (omega arith) n)
+      paid (table-width c.args.stock.now.rest.now c.args.stock.now.prices.now now (colour ∷ own) k
       (length c.args.table.now) (length c.loop-t.table) (cell c.loop-t.table) (sym w)
       (c.loop-t.invariant.best own colour k run p)));
   near = λ n h l.
@@ -56,8 +61,8 @@ loop-t-preserved c = record {
 pub returns-clause-best : goal.returns-clause-best
 returns-clause-best c own colour k run p =
     let e : c.loop-t.t ≡ c.args.end = omega (arith, c.loop-t.auto.t-end, c.requires.order) in
-    subst (λ t. IsTable (let_in c.args.rest.now c.args.items.now own t) (colour ∷ own) k
-    c.args.rest.now c.args.prices.now (length c.args.table.now) (cell c.loop-t.table)) e
+    subst (λ t. IsTableOf c.args.stock.now (let_to c.args.stock.now own t) (colour ∷ own) k (length
+    c.args.table.now) (cell c.loop-t.table)) e
     (c.loop-t.invariant.best own colour k run p)
 
 pub returns-clause-near : goal.returns-clause-near

@@ -1,14 +1,15 @@
-use Rattle.tree_search.proofs.Steps.{leaf-closed, kids-wait}
+use Rattle.tree_search.proofs.Steps.{leaf-closed, split-closed}
 use Rattle.tree_search.proofs.close.close.Goals as goal
 
-pub returns-then-depth-len : goal.returns-then-depth-len
-returns-then-depth-len c =
-    leaf-closed _ _ _ c.requires.ranked c.args.path.now c.in_ok-node.node _ _ _ _ _
-    c.in_ok-node.ensures c.depth.ensures.is c.len.ensures.is c.if-depth-len.true
-    c.in_ok-keep_leaf.ensures
+pub returns-then-depth-len-clause-closed : goal.returns-then-depth-len-clause-closed
+returns-then-depth-len-clause-closed c =
+    let kept = c.in_ok-keep_leaf.ensures in
+    leaf-closed _ _ _ c.requires.ranked _ c.requires.inside _ c.in_ok-node.ensures _ _
+    c.depth.ensures.is c.len.ensures.is _ _ c.if-depth-len.true kept.plan kept.no_worse kept.here
 
-pub returns : goal.returns
-returns c =
-    kids-wait _ _ _ c.requires.ranked c.args.path.now c.in_ok-node.node _ _ _ _ _ _
-    c.in_ok-node.ensures c.depth.ensures.is c.depth.ensures.within c.len.ensures.is
-    c.if-depth-len.false c.in_ok-children.ensures.is c.in_ok-put_first_last.ensures
+pub returns-clause-closed : goal.returns-clause-closed
+returns-clause-closed c =
+    let children = c.in_ok-children.ensures in
+    split-closed _ _ _ c.requires.ranked _ c.requires.inside _ c.in_ok-node.ensures _ _
+    c.depth.ensures.is c.len.ensures.is _ _ c.depth.ensures.within c.if-depth-len.false
+    children.is children.tree c.requires.best

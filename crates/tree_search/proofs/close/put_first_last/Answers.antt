@@ -1,6 +1,6 @@
 use Rattle.std.proofs.Common.{rules, ◌≡◌, ◌++◌, [], reverse}
 use Rattle.std.proofs.Common.{ap, sym, ◌∙◌, append-nil}
-use Rattle.tree_search.proofs.Fronts.{turned-push}
+use Rattle.tree_search.proofs.Lists.{turned-push}
 use Rattle.tree_search.proofs.close.put_first_last.Goals as goal
 
 pub loop-path-preserved : goal.loop-path-preserved

@@ -1,7 +1,7 @@
 use Rattle.std.proofs.Common.{◌≡◌, ◌+◌, ◌∷◌, ◌∙◌, inr, Some, true, length, ap, refl, sym, arith}
 use Rattle.line_text.specs.Lines.{is_end, first_filled}
 use Rattle.answer_text.specs.Reading.{Reading}
-use Rattle.answer_text.proofs.Ending.{filled-within}
+use Rattle.refute_log.proofs.Judging.{first_filled-below}
 use Rattle.answer_text.proofs.read.Reader.end.Goals as goal
 
 pub overflow_add-result : goal.overflow_add-result
@@ -15,7 +15,7 @@ overflow_add-result c =
     let text = c.in_ok-line.ensures.ok.text in
     omega (
       arith,
-      filled-within c.self.inside.lines c.in-Some.behind filled,
+      first_filled-below c.self.inside.lines c.in-Some.behind filled,
       ap length lines,
       ap length text,
       c.in_ok-line.ensures.ok.read,

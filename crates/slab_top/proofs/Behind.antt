@@ -1,11 +1,13 @@
 -- What stands behind white space.
 use Rattle.std.proofs.Common.{◌≡◌, ℕ, zero, suc, ◌+◌, ◌-◌, ◌<◌, ◌≤◌, List, [], ◌∷◌, true, IsTrue}
-use Rattle.std.proofs.Common.{length, take, drop, get_or, refl, sym, ap, ◌∙◌, subst, arith, inl, inr}
+use Rattle.std.proofs.Common.{length, take, drop, get_or, refl, sym, ap, ◌∙◌, subst, arith, inl}
+use Rattle.std.proofs.Common.{inr}
 use Rattle.std.proofs.Common.{length-drop, drop-cons}
 use Rattle.std.specs.Prelude.{All}
 use Rattle.std.proofs.lemmas.Bool.{cases_order}
 use Rattle.std.proofs.lemmas.List.{get_or-drop, take_all}
-use Rattle.instance_text.specs.Words.{is_space, IsBlankFrom, IsFirstNotBlank}
+use Rattle.line_text.specs.Lines.{is_white}
+use Rattle.instance_text.specs.Words.{IsBlankFrom, IsFirstNotBlank}
 use Rattle.slab_top.specs.Answer.{after_white}
 
 -- a rest that is blank has no first byte that isn't
@@ -17,8 +19,8 @@ rest-is-blank text end at first blank =
     let here : end + (at - end) ≡ at = omega arith in
     let same : get_or (drop end text) (at - end) 0 ≡ get_or text at 0 =
     get_or-drop end text (at - end) 0 ∙ ap (λ i. get_or text i 0) here in
-    let space : is_space (get_or text at 0) ≡ true =
-    subst (λ byte. is_space byte ≡ true) same
+    let space : is_white (get_or text at 0) ≡ true =
+    subst (λ byte. is_white byte ≡ true) same
     (blank (at - end) 0 (omega (arith, length-drop end text))) in
     let solid = first.solid in
     cc
@@ -40,11 +42,11 @@ first-once text end a b first second = elim (cases_order a b) [
 ]
 
 -- white space alone has nothing behind it
-after-all-white : (text : List ℕ) → All (λ byte. IsTrue (is_space byte)) text →
+after-all-white : (text : List ℕ) → All (λ byte. IsTrue (is_white byte)) text →
     after_white text ≡ []
 after-all-white [] blank = refl
 after-all-white (byte ∷ text) blank =
-    let white : is_space byte ≡ true = blank 0 0 (omega arith) in
+    let white : is_white byte ≡ true = blank 0 0 (omega arith) in
     rw white (after-all-white text (λ i d inside. blank (suc i) d (omega arith)))
 
 pub after-blank : (text : List ℕ) (end : ℕ) → IsBlankFrom text end →

@@ -1,8 +1,10 @@
 -- What a plan loses by a table of charges, and within which limits.
-use Rattle.std.proofs.Common.{◌≡◌, ℕ, zero, suc, ◌+◌, ◌-◌, ◌*◌, ◌<◌, ◌≤◌, Bool, true, false, cond, ltb}
-use Rattle.std.proofs.Common.{List, [], ◌∷◌, length, max, leb, eqb, refl, sym, ap, ◌∙◌, subst, arith}
+use Rattle.std.proofs.Common.{◌≡◌, ℕ, zero, suc, ◌+◌, ◌-◌, ◌*◌, ◌<◌, ◌≤◌, Bool, true, false, cond}
+use Rattle.std.proofs.Common.{ltb}
+use Rattle.std.proofs.Common.{List, [], ◌∷◌, length, max, leb, eqb, refl, sym, ap, ◌∙◌, subst}
+use Rattle.std.proofs.Common.{arith}
 use Rattle.std.proofs.Common.{eq-eqb, eqb-true, ltb-true, get_or}
-use Rattle.std.specs.Prelude.{◌↔◌, All, Option, Some, None, slice_index}
+use Rattle.std.specs.Prelude.{◌↔◌, All, Option, Some, None, IfSome, slice_index}
 use Rattle.std.specs.List.{list_all}
 use Rattle.mill_model.specs.Sets.{total}
 use Rattle.mill_model.specs.Slab.{load}
@@ -12,11 +14,10 @@ use Rattle.mill_model.specs.Plan.{slab, loss, numbers_each}
 use Rattle.mill_model.specs.declared.order.Order.{Order}
 use Rattle.mill_laws.proofs.Lists.{total-cong, and-left, and-right}
 use Rattle.plan_check.specs.Verdicts.{IsLegal}
-use Rattle.plan_check.specs.declared.verdict.Verdict.{Verdict}
-use Rattle.plan_check.specs.declared.verdict.Verdict.TheVariants.{Legal}
-use Rattle.answer_text.specs.declared.answer.Answer.TheVariants.{Optimal}
-use Rattle.slab_top.specs.Best.{IsBest, IsLegalFor, IsTidy, IsTidyPlan, loss_of}
-use Rattle.slab_top.specs.Outcome.{IsToldAnswer}
+use Rattle.answer_text.specs.declared.answer.Answer.TheVariants.{Optimal, Feasible}
+use Rattle.slab_top.specs.Best.{IsLegalFor, IsTidyPlan, loss_of}
+use Rattle.refute_log.specs.Logged.{Logged}
+use Rattle.answer_text.specs.Text.{Fits}
 
 -- a table with the charge of each load charges a plan its loss
 pub table-loss : (problem : Problem) (charges plan : List ℕ) →
@@ -48,37 +49,6 @@ numbers-from orders plan count below =
         let first : s < length orders = below 0 0 (omega arith) in
         let test : ltb s (length orders) ≡ true = grind arith in
         rw test (all-below plan (λ i d inside. below (suc i) d (omega arith)))
-
--- A plan was made like another one and judged.
-module _ (problem : Problem) (charges plan made : List ℕ) (same : made ≡ plan) (verdict : Verdict)
-    (each : (l : ℕ) → slice_index charges l ≡ loss_charge problem.sizes l)
-    (says : (lost : ℕ) → (verdict ≡ Legal lost)
-    ↔ IsLegal (mill_of problem) (λ l. slice_index charges l) problem.orders made lost) where
-  -- where it is legal, it was found to lose what it loses
-  pub found-legal : (fine : IsLegalFor problem plan) → verdict ≡ Legal (loss_of problem plan)
-  found-legal fine =
-      (says (loss_of problem plan)).1 (record {
-        is_legal = subst (IsLegalFor problem) (sym same) fine;
-        loses = ap (loss_of problem) (sym same) ∙ sym (table-loss problem charges made each);
-      })
-
-  pub found-loss : (lost : ℕ) → verdict ≡ Legal lost → IsLegalFor problem plan →
-      lost ≡ loss_of problem plan
-  found-loss lost is fine = let found = found-legal fine in legal-once (sym is ∙ found)
-    where
-      legal-once : {l m : ℕ} → Legal l ≡ Legal m → l ≡ m
-      legal-once e = cc
-
-  -- and where it was found legal, it is
-  pub found-tidy : (lost : ℕ) → verdict ≡ Legal lost → IsTidy plan →
-      IsTidyPlan problem (record { plan = made; loss = lost })
-  found-tidy lost is tidy =
-      let legal = (says lost).0 is in
-      record {
-        fine = legal.is_legal;
-        tidy = subst IsTidy (sym same) tidy;
-        loses = sym (legal.loses ∙ table-loss problem charges made each);
-      }
 
 -- numbers below the number of orders, each of them
 numbers-below : (n : ℕ) (plan : List ℕ) → list_all (λ s. ltb s n) plan ≡ true →
@@ -139,17 +109,36 @@ loss-limit problem plan instance =
         let charge = charge-limit problem.sizes l in
         omega arith
 
--- so the best plan can be told
-pub best-told : (problem : Problem) (plan : List ℕ) (lost : ℕ) → IsInstance problem →
-    IsBest problem (record { plan = plan; loss = lost }) → IsToldAnswer (Optimal lost plan)
-best-told problem plan lost instance best =
-    let each = best.found.fine.each in
-    let count = eqb-true (length plan) (length problem.orders)
-    (and-left (eqb (length plan) (length problem.orders)) _ each) in
-    let below = numbers-below (length problem.orders) plan
-    (and-right (eqb (length plan) (length problem.orders)) _ each) in
-    let limit = loss-limit problem plan instance in
-    let loses = best.found.loses in (
-      tt,
-      (omega arith, ((refl, subst (λ n. All (λ s. s < n) plan) (sym count) below), tt)),
+-- so the numbers of an answer with a tidy plan are within the limits of its text
+numbers-told : (problem : Problem) (plan : List ℕ) → IsLegalFor problem plan →
+    (length plan ≡ length problem.orders) × All (λ s. s < length problem.orders) plan
+numbers-told problem plan fine =
+    let each = fine.each in (
+      eqb-true (length plan) (length problem.orders)
+          (and-left (eqb (length plan) (length problem.orders)) _ each),
+      numbers-below (length problem.orders) plan
+          (and-right (eqb (length plan) (length problem.orders)) _ each),
     )
+
+pub optimal-fits : (problem : Problem) (plan : List ℕ) (lost : ℕ) (log : Option Logged) →
+    IsInstance problem → IsTidyPlan problem (record { plan = plan; loss = lost }) →
+    IfSome log (λ log. log.orders ≡ length problem.orders) →
+    Fits (length problem.orders) (Optimal lost plan log)
+optimal-fits problem plan lost log instance found orders =
+    let limit = loss-limit problem plan instance in
+    let loses = found.loses in
+    record {
+      numbers = (tt, (omega arith, (numbers-told problem plan found.fine, tt)));
+      refutation = orders;
+    }
+
+pub feasible-fits : (problem : Problem) (plan : List ℕ) (lost spent : ℕ) → IsInstance problem →
+    IsTidyPlan problem (record { plan = plan; loss = lost }) → spent ≤ 1000000000 →
+    Fits (length problem.orders) (Feasible lost plan spent)
+feasible-fits problem plan lost spent instance found few =
+    let limit = loss-limit problem plan instance in
+    let loses = found.loses in
+    record {
+      numbers = (tt, (omega arith, (numbers-told problem plan found.fine, (few, tt))));
+      refutation = tt;
+    }

@@ -1,7 +1,7 @@
 -- The answers to an input agree.
 use Rattle.std.specs.Prelude.{Option, Some, None, IfSome, IsSome, IfOk, Result, Ok, Err}
-use Rattle.std.proofs.Common.{◌≡◌, ℕ, ◌≤◌, ◌<◌, List, length, drop, refl, sym, ap, ◌∙◌, subst}
-use Rattle.std.proofs.Common.{◌⊎◌, inl, inr, arith}
+use Rattle.std.proofs.Common.{◌≡◌, ◌≢◌, ℕ, ◌≤◌, ◌<◌, List, length, drop, true, false}
+use Rattle.std.proofs.Common.{refl, sym, ap, ◌∙◌, subst, ◌⊎◌, inl, inr, arith}
 use Rattle.mill_model.specs.Instance.{Problem}
 use Rattle.mill_model.specs.declared.memory.OutOfMemory.{OutOfMemory as Memory}
 use Rattle.instance_text.specs.Words.{IsBlankFrom, IsFirstNotBlank}
@@ -12,26 +12,31 @@ use Rattle.line_text.specs.Lines.{text_lines}
 use Rattle.answer_text.specs.declared.answer.Answer.{Answer}
 use Rattle.answer_text.specs.declared.answer.Answer.TheVariants.{Optimal, Feasible, Infeasible}
 use Rattle.answer_text.specs.declared.error.AnswerTextError.{AnswerTextError}
-use Rattle.answer_text.specs.declared.error.AnswerTextError.TheVariants.{BadLine, OutOfMemory}
+use Rattle.answer_text.specs.declared.error.AnswerTextError.TheVariants as error
 use Rattle.answer_text.specs.Text.{IsAnswerText}
-use Rattle.answer_text.specs.Judged.{IsBadLine}
+use Rattle.answer_text.specs.Judged.{IsBadLine, IsNotRising, CountIsOther}
 use Rattle.slab_top.specs.declared.words.Command.{Command}
-use Rattle.slab_top.specs.declared.words.Command.TheVariants.{Solve, Check}
+use Rattle.slab_top.specs.declared.words.Command.TheVariants.{Verify}
 use Rattle.slab_top.specs.declared.words.Job.{Job}
 use Rattle.slab_top.specs.declared.judgement.Judgement.{Judgement}
 use Rattle.slab_top.specs.declared.outcome.Refusal.{Refusal}
-use Rattle.slab_top.specs.declared.outcome.Refusal.TheVariants.{TooLong, BadByte, Short, OutOfRange}
-use Rattle.slab_top.specs.declared.outcome.Refusal.TheVariants.{Rest, AnswerLine}
+use Rattle.slab_top.specs.declared.outcome.Refusal.TheVariants.{TooLong, BadByte, Short}
+use Rattle.slab_top.specs.declared.outcome.Refusal.TheVariants.{OutOfRange, Rest, AnswerLine}
+use Rattle.slab_top.specs.declared.outcome.Refusal.TheVariants.{AnswerNotRising, AnswerCount}
+use Rattle.slab_top.specs.declared.outcome.Refusal.TheVariants.{AnswerKind}
 use Rattle.slab_top.specs.declared.outcome.Outcome.{Outcome}
-use Rattle.slab_top.specs.declared.outcome.Outcome.TheVariants.{WrongWords, Refused, Solved, Judged}
-use Rattle.slab_top.specs.Words.{AskFor, limit_of}
-use Rattle.slab_top.specs.Outcome.{status_of}
-use Rattle.slab_top.specs.Front.{HasFront}
-use Rattle.slab_top.specs.Judgement.{IsSaidOf}
-use Rattle.slab_top.specs.Answer.{IsWithinLimit, HasLines, IsSolution, IsAnswer, AgreeOnAnswers, Agree}
-use Rattle.slab_top.specs.Answer.{AnswersAgree, IsServed, IsRight, after_white}
+use Rattle.slab_top.specs.declared.outcome.Outcome.TheVariants.{WrongWords, Refused, Solved}
+use Rattle.slab_top.specs.declared.outcome.Outcome.TheVariants.{Judged}
+use Rattle.slab_top.specs.Words.{AskFor, limit_of, takes_answer}
+use Rattle.slab_top.specs.Outcome.{status_of, MayEndWith}
+use Rattle.slab_top.specs.Front.{HasFront, IsSaidFor, answer_refusal}
+use Rattle.slab_top.specs.Verify.{ProvesNothing}
+use Rattle.slab_top.specs.Answer.{IsWithinLimit, HasLines, IsSolved, IsAnswer, IsJudgedBy}
+use Rattle.slab_top.specs.Answer.{AgreeOnAnswers, Agree, AnswersAgree, IsServed, IsRight}
+use Rattle.slab_top.specs.Answer.{after_white}
 use Rattle.slab_top.proofs.Behind.{rest-is-blank, first-once}
-use Rattle.slab_top.proofs.Once.{solution-once, said-once}
+use Rattle.slab_top.proofs.Once.{solution-once}
+use Rattle.slab_top.proofs.Said.{said-for-once}
 
 -- two readings that are one have the same instance and the same end
 pub read-same : {problem other : Problem} {end stop : ℕ} →
@@ -41,28 +46,52 @@ read-same {problem} {other} {end} {stop} e =
     let pair : ◌≡◌ {A = Problem × ℕ} (other, stop) (problem, end) = cc in
     (ap (λ (read : Problem × ℕ). read.0) pair, ap (λ (read : Problem × ℕ). read.1) pair)
 
--- outcomes that agree have one status
+-- a run may end with an outcome's own status
+own-status : (a : Outcome) → MayEndWith a (status_of a)
+own-status WrongWords = refl
+own-status (Refused why) = refl
+own-status (Solved (Optimal loss plan log)) = inl refl
+own-status (Solved (Feasible loss plan spent)) = inr refl
+own-status (Solved (Infeasible order)) = refl
+own-status (Judged judgement) = refl
+
+same-status : (a b : Outcome) → a ≡ b → MayEndWith b (status_of a)
+same-status a b e = subst (λ outcome. MayEndWith outcome (status_of a)) e (own-status a)
+
+-- and with that of an outcome that agrees with it
 agree-on-answers : (a b : Answer) → AgreeOnAnswers a b →
-    status_of (Solved a) ≡ status_of (Solved b)
-agree-on-answers (Optimal loss plan) (Optimal other slabs) e = refl
-agree-on-answers (Optimal loss plan) (Feasible other slabs spent) e =
-    ap (λ answer. status_of (Solved answer)) e
-agree-on-answers (Optimal loss plan) (Infeasible order) e =
-    ap (λ answer. status_of (Solved answer)) e
-agree-on-answers (Feasible loss plan spent) b e = ap (λ answer. status_of (Solved answer)) e
-agree-on-answers (Infeasible order) b e = ap (λ answer. status_of (Solved answer)) e
+    MayEndWith (Solved b) (status_of (Solved a))
+agree-on-answers (Optimal loss plan log) (Optimal other slabs entries) e = inl refl
+agree-on-answers (Optimal loss plan log) (Feasible other slabs spent) e = inl refl
+agree-on-answers (Optimal loss plan log) (Infeasible order) e =
+    same-status (Solved (Optimal loss plan log)) (Solved (Infeasible order)) (ap Solved e)
+agree-on-answers (Feasible loss plan spent) (Optimal other slabs entries) e = inr refl
+agree-on-answers (Feasible loss plan spent) (Feasible other slabs closed) e = inr refl
+agree-on-answers (Feasible loss plan spent) (Infeasible order) e =
+    same-status (Solved (Feasible loss plan spent)) (Solved (Infeasible order)) (ap Solved e)
+agree-on-answers (Infeasible order) b e =
+    same-status (Solved (Infeasible order)) (Solved b) (ap Solved e)
 
-pub agree-status : (a b : Outcome) → Agree a b → status_of a ≡ status_of b
+pub agree-status : (a b : Outcome) → Agree a b → MayEndWith b (status_of a)
 agree-status (Solved a) (Solved b) e = agree-on-answers a b e
-agree-status (Solved a) WrongWords e = ap status_of e
-agree-status (Solved a) (Refused why) e = ap status_of e
-agree-status (Solved a) (Judged judgement) e = ap status_of e
-agree-status WrongWords b e = ap status_of e
-agree-status (Refused why) b e = ap status_of e
-agree-status (Judged judgement) b e = ap status_of e
+agree-status (Solved a) WrongWords e = same-status (Solved a) WrongWords e
+agree-status (Solved a) (Refused why) e = same-status (Solved a) (Refused why) e
+agree-status (Solved a) (Judged judgement) e = same-status (Solved a) (Judged judgement) e
+agree-status WrongWords b e = same-status WrongWords b e
+agree-status (Refused why) b e = same-status (Refused why) b e
+agree-status (Judged judgement) b e = same-status (Judged judgement) b e
 
-not-both : (command : Command) → command ≡ Solve → command ≡ Check → ⊥
-not-both command solves checks = let same : Solve ≡ Check = sym solves ∙ checks in absurd (cc)
+-- what is said where an answer was read is no answer to an instance, so it agrees where it is one
+same-agree : (command : Command) (problem : Problem) (answer : Answer) (a b : Outcome) →
+    IsSaidFor command problem answer a → a ≡ b → Agree a b
+same-agree command problem answer WrongWords b said e = e
+same-agree command problem answer (Refused why) b said e = e
+same-agree command problem answer (Solved other) b said e = absurd said
+same-agree command problem answer (Judged judgement) b said e = e
+
+-- a command's input has an answer behind the instance, or it has none
+either-way : (command : Command) → takes_answer command ≡ false → takes_answer command ≡ true → ⊥
+either-way command alone followed = cc
 
 -- the refusal of an instance for what is wrong with it
 abbrev pub refusal-of : InstanceError → Refusal
@@ -76,6 +105,36 @@ Error why = Err why
 
 error-same : (a b : InstanceError) → Error a ≡ Error b → a ≡ b
 error-same a b e = cc
+
+-- What a reader of answers gives is one thing.
+abbrev Read : Type 0
+Read = Result Answer AnswerTextError
+
+error-of : (a b : AnswerTextError) → ◌≡◌ {A = Read} (Err a) (Err b) → a ≡ b
+error-of a b e = cc
+
+one-error : (read : Read) (why other : AnswerTextError) → read ≡ Err why →
+    why ≢ error.OutOfMemory → (read ≡ Err other) ⊎ (read ≡ Err error.OutOfMemory) →
+    why ≡ other
+one-error read why other is memory (inl e) = cc
+one-error read why other is memory (inr e) =
+    absurd (memory (error-of why error.OutOfMemory (sym is ∙ e)))
+
+no-answer : (read : Read) (why : AnswerTextError) (answer : Answer) → read ≡ Err why →
+    why ≢ error.OutOfMemory → (read ≡ Ok answer) ⊎ (read ≡ Err error.OutOfMemory) → ⊥
+no-answer read why answer is memory (inl e) = absurd (cc)
+no-answer read why answer is memory (inr e) =
+    memory (error-of why error.OutOfMemory (sym is ∙ e))
+
+no-error : (read : Read) (answer : Answer) (why : AnswerTextError) → read ≡ Ok answer →
+    (read ≡ Err why) ⊎ (read ≡ Err error.OutOfMemory) → ⊥
+no-error read answer why is (inl e) = absurd (cc)
+no-error read answer why is (inr e) = absurd (cc)
+
+one-answer : (read : Read) (answer other : Answer) → read ≡ Ok answer →
+    (read ≡ Ok other) ⊎ (read ≡ Err error.OutOfMemory) → other ≡ answer
+one-answer read answer other is (inl e) = cc
+one-answer read answer other is (inr e) = absurd (cc)
 
 -- The answers to a job's input.
 module _ (job : Job) (input : List ℕ) where
@@ -101,6 +160,12 @@ module _ (job : Job) (input : List ℕ) where
       absurd (unread a.problem a.rest.end a.rest.begins a.colours)
   refused-agree why within only unread (Refused (AnswerLine number)) a =
       absurd (unread a.problem a.behind.end a.behind.begins a.behind.colours)
+  refused-agree why within only unread (Refused (AnswerNotRising number)) a =
+      absurd (unread a.problem a.behind.end a.behind.begins a.behind.colours)
+  refused-agree why within only unread (Refused (AnswerCount stated found)) a =
+      absurd (unread a.problem a.behind.end a.behind.begins a.behind.colours)
+  refused-agree why within only unread (Refused AnswerKind) a =
+      absurd (unread a.problem a.given.behind.end a.given.behind.begins a.given.behind.colours)
   refused-agree why within only unread (Solved answer) a =
       absurd (unread a.0 a.1.text.end a.1.text.begins a.1.colours)
   refused-agree why within only unread (Judged judgement) a =
@@ -124,111 +189,259 @@ module _ (job : Job) (input : List ℕ) where
     abbrev behind : List (List ℕ)
     behind = text_lines (after_white (drop end input))
 
-    same-lines : (other : Problem) (lines : List (List ℕ)) → HasLines job input other lines →
-        (other ≡ problem) × (lines ≡ behind)
-    same-lines other lines has =
+    -- the right outcomes, by what stands behind the instance
+    abbrev IsBehind : Outcome → Type 0
+    IsBehind WrongWords = ⊥
+    IsBehind (Refused (TooLong limit)) = ⊥
+    IsBehind (Refused (BadByte at)) = ⊥
+    IsBehind (Refused (Short token)) = ⊥
+    IsBehind (Refused (OutOfRange what token)) = ⊥
+    IsBehind (Refused (Rest at)) =
+        (takes_answer job.command ≡ false) × IsFirstNotBlank input end at
+    IsBehind (Refused (AnswerLine number)) =
+        (takes_answer job.command ≡ true) × IsBadLine (length problem.orders) behind number
+    IsBehind (Refused (AnswerNotRising number)) =
+        (takes_answer job.command ≡ true) × IsNotRising (length problem.orders) behind number
+    IsBehind (Refused (AnswerCount stated found)) =
+        (takes_answer job.command ≡ true)
+        × CountIsOther (length problem.orders) behind stated found
+    IsBehind (Refused AnswerKind) =
+        (job.command ≡ Verify) × (answer : Answer)
+        × IsAnswerText (length problem.orders) answer behind × ProvesNothing answer
+    IsBehind (Solved answer) =
+        (takes_answer job.command ≡ false) × IsBlankFrom input end
+        × IsSolved job.command job.nodes problem answer
+    IsBehind (Judged judgement) =
+        (takes_answer job.command ≡ true) × (answer : Answer)
+        × IsAnswerText (length problem.orders) answer behind
+        × IsJudgedBy job.command problem answer judgement
+
+    -- lines behind an instance are these, and so what is said of them is said of these
+    same-lines : (Says : Problem → List (List ℕ) → Type 0) (other : Problem)
+        (lines : List (List ℕ)) → HasLines job input other lines → Says other lines →
+        Says problem behind
+    same-lines Says other lines has says =
         let same = front.only other has.end has.begins has.colours in
-        (same.0, has.follow ∙ ap (λ stop. text_lines (after_white (drop stop input))) same.1)
+        let follow = has.follow
+        ∙ ap (λ stop. text_lines (after_white (drop stop input))) same.1 in
+        subst (λ p. Says p behind) same.0 (subst (Says other) follow says)
+
+    is-behind : (other : Outcome) → IsAnswer job input other → IsBehind other
+    is-behind WrongWords a = a
+    is-behind (Refused (TooLong limit)) a = not-long limit front.within a.0 a.1
+    is-behind (Refused (BadByte at)) a = front.unrefused _ a.1
+    is-behind (Refused (Short token)) a = front.unrefused _ a.1
+    is-behind (Refused (OutOfRange what token)) a = front.unrefused _ a.1
+    is-behind (Refused (Rest at)) a =
+        let same = front.only a.problem a.rest.end a.rest.begins a.colours in
+        (a.alone, subst (λ stop. IsFirstNotBlank input stop at) same.1 a.rest.first)
+    is-behind (Refused (AnswerLine number)) a = (
+      a.behind.followed,
+      same-lines (λ p lines. IsBadLine (length p.orders) lines number)
+          a.problem a.lines a.behind a.fault,
+    )
+    is-behind (Refused (AnswerNotRising number)) a = (
+      a.behind.followed,
+      same-lines (λ p lines. IsNotRising (length p.orders) lines number)
+          a.problem a.lines a.behind a.fault,
+    )
+    is-behind (Refused (AnswerCount stated found)) a = (
+      a.behind.followed,
+      same-lines (λ p lines. CountIsOther (length p.orders) lines stated found)
+          a.problem a.lines a.behind a.fault,
+    )
+    is-behind (Refused AnswerKind) a = (
+      a.command,
+      a.answer,
+      same-lines (λ p lines. IsAnswerText (length p.orders) a.answer lines)
+          a.problem a.given.lines a.given.behind a.given.text,
+      a.kind,
+    )
+    is-behind (Solved answer) a =
+        let same = front.only a.0 a.1.text.end a.1.text.begins a.1.colours in (
+          a.1.alone,
+          subst (IsBlankFrom input) same.1 a.1.text.blank,
+          subst (λ p. IsSolved job.command job.nodes p answer) same.0 a.2,
+        )
+    is-behind (Judged judgement) a =
+        let said = same-lines (λ p lines. IsAnswerText (length p.orders) a.1 lines
+        × IsJudgedBy job.command p a.1 judgement) a.0 a.2.lines a.2.behind (a.2.text, a.3) in
+        (a.2.behind.followed, a.1, said.0, said.1)
 
     -- something follows where nothing may
-    pub rest-agree : (at : ℕ) → job.command ≡ Solve → IsFirstNotBlank input end at →
-        AnswersAgree job input (Refused (Rest at))
-    rest-agree at solves first WrongWords a = absurd a
-    rest-agree at solves first (Refused (TooLong limit)) a =
-        absurd (not-long limit front.within a.0 a.1)
-    rest-agree at solves first (Refused (BadByte byte)) a = absurd (front.unrefused _ a.1)
-    rest-agree at solves first (Refused (Short token)) a = absurd (front.unrefused _ a.1)
-    rest-agree at solves first (Refused (OutOfRange what token)) a = absurd (front.unrefused _ a.1)
-    rest-agree at solves first (Refused (Rest other)) a =
-        let same = front.only a.problem a.rest.end a.rest.begins a.colours in
-        ap (λ place. Refused (Rest place)) (first-once input end at other first
-        (subst (λ stop. IsFirstNotBlank input stop other) same.1 a.rest.first))
-    rest-agree at solves first (Refused (AnswerLine number)) a =
-        absurd (not-both job.command solves a.behind.command)
-    rest-agree at solves first (Solved answer) a =
-        let same = front.only a.0 a.1.text.end a.1.text.begins a.1.colours in
-        absurd (rest-is-blank input end at first (subst (IsBlankFrom input) same.1 a.1.text.blank))
-    rest-agree at solves first (Judged judgement) a =
-        absurd (not-both job.command solves a.2.behind.command)
+    rest-known : (at : ℕ) → takes_answer job.command ≡ false → IsFirstNotBlank input end at →
+        (other : Outcome) → IsBehind other → Agree (Refused (Rest at)) other
+    rest-known at alone first WrongWords a = absurd a
+    rest-known at alone first (Refused (TooLong limit)) a = absurd a
+    rest-known at alone first (Refused (BadByte byte)) a = absurd a
+    rest-known at alone first (Refused (Short token)) a = absurd a
+    rest-known at alone first (Refused (OutOfRange what token)) a = absurd a
+    rest-known at alone first (Refused (Rest other)) a =
+        ap (λ place. Refused (Rest place)) (first-once input end at other first a.1)
+    rest-known at alone first (Refused (AnswerLine number)) a =
+        absurd (either-way job.command alone a.0)
+    rest-known at alone first (Refused (AnswerNotRising number)) a =
+        absurd (either-way job.command alone a.0)
+    rest-known at alone first (Refused (AnswerCount stated found)) a =
+        absurd (either-way job.command alone a.0)
+    rest-known at alone first (Refused AnswerKind) a =
+        absurd (either-way job.command alone (ap takes_answer a.0))
+    rest-known at alone first (Solved answer) a =
+        absurd (rest-is-blank input end at first a.1)
+    rest-known at alone first (Judged judgement) a =
+        absurd (either-way job.command alone a.0)
+
+    pub rest-agree : (at : ℕ) → takes_answer job.command ≡ false →
+        IsFirstNotBlank input end at → AnswersAgree job input (Refused (Rest at))
+    rest-agree at alone first other a = rest-known at alone first other (is-behind other a)
 
     -- the instance stands alone, and is solved
-    pub solved-agree : (answer : Answer) → job.command ≡ Solve → IsBlankFrom input end →
-        IsSolution problem answer → AnswersAgree job input (Solved answer)
-    solved-agree answer solves blank is WrongWords a = absurd a
-    solved-agree answer solves blank is (Refused (TooLong limit)) a =
-        absurd (not-long limit front.within a.0 a.1)
-    solved-agree answer solves blank is (Refused (BadByte byte)) a = absurd (front.unrefused _ a.1)
-    solved-agree answer solves blank is (Refused (Short token)) a = absurd (front.unrefused _ a.1)
-    solved-agree answer solves blank is (Refused (OutOfRange what token)) a =
-        absurd (front.unrefused _ a.1)
-    solved-agree answer solves blank is (Refused (Rest at)) a =
-        let same = front.only a.problem a.rest.end a.rest.begins a.colours in
-        absurd (rest-is-blank input end at
-        (subst (λ stop. IsFirstNotBlank input stop at) same.1 a.rest.first) blank)
-    solved-agree answer solves blank is (Refused (AnswerLine number)) a =
-        absurd (not-both job.command solves a.behind.command)
-    solved-agree answer solves blank is (Solved other) a =
-        let same = front.only a.0 a.1.text.end a.1.text.begins a.1.colours in
-        solution-once problem answer other is (subst (λ p. IsSolution p other) same.0 a.2)
-    solved-agree answer solves blank is (Judged judgement) a =
-        absurd (not-both job.command solves a.2.behind.command)
+    solved-known : (answer : Answer) → takes_answer job.command ≡ false →
+        IsBlankFrom input end → IsSolved job.command job.nodes problem answer →
+        (other : Outcome) → IsBehind other → Agree (Solved answer) other
+    solved-known answer alone blank is WrongWords a = absurd a
+    solved-known answer alone blank is (Refused (TooLong limit)) a = absurd a
+    solved-known answer alone blank is (Refused (BadByte byte)) a = absurd a
+    solved-known answer alone blank is (Refused (Short token)) a = absurd a
+    solved-known answer alone blank is (Refused (OutOfRange what token)) a = absurd a
+    solved-known answer alone blank is (Refused (Rest at)) a =
+        absurd (rest-is-blank input end at a.1 blank)
+    solved-known answer alone blank is (Refused (AnswerLine number)) a =
+        absurd (either-way job.command alone a.0)
+    solved-known answer alone blank is (Refused (AnswerNotRising number)) a =
+        absurd (either-way job.command alone a.0)
+    solved-known answer alone blank is (Refused (AnswerCount stated found)) a =
+        absurd (either-way job.command alone a.0)
+    solved-known answer alone blank is (Refused AnswerKind) a =
+        absurd (either-way job.command alone (ap takes_answer a.0))
+    solved-known answer alone blank is (Solved other) a =
+        solution-once job.nodes problem answer other is.solution a.2.solution
+    solved-known answer alone blank is (Judged judgement) a =
+        absurd (either-way job.command alone a.0)
 
-    -- the answer that follows has a wrong line
-    pub line-agree : (number : ℕ) → job.command ≡ Check →
-        ((other : ℕ) → IsBadLine (length problem.orders) behind other → number ≡ other) →
-        ((answer : Answer) → IsAnswerText (length problem.orders) answer behind → ⊥) →
-        AnswersAgree job input (Refused (AnswerLine number))
-    line-agree number checks only none WrongWords a = absurd a
-    line-agree number checks only none (Refused (TooLong limit)) a =
-        absurd (not-long limit front.within a.0 a.1)
-    line-agree number checks only none (Refused (BadByte byte)) a = absurd (front.unrefused _ a.1)
-    line-agree number checks only none (Refused (Short token)) a = absurd (front.unrefused _ a.1)
-    line-agree number checks only none (Refused (OutOfRange what token)) a =
-        absurd (front.unrefused _ a.1)
-    line-agree number checks only none (Refused (Rest at)) a =
-        absurd (not-both job.command a.command checks)
-    line-agree number checks only none (Refused (AnswerLine other)) a =
-        let same = same-lines a.problem a.lines a.behind in
-        ap (λ n. Refused (AnswerLine n)) (only other
-        (subst (λ p. IsBadLine (length p.orders) behind other) same.0
-        (subst (λ lines. IsBadLine (length a.problem.orders) lines other) same.1 a.bad)))
-    line-agree number checks only none (Solved answer) a =
-        absurd (not-both job.command a.1.command checks)
-    line-agree number checks only none (Judged judgement) a =
-        let same = same-lines a.0 a.2.lines a.2.behind in
-        absurd (none a.1 (subst (λ p. IsAnswerText (length p.orders) a.1 behind) same.0
-        (subst (λ lines. IsAnswerText (length a.0.orders) a.1 lines) same.1 a.2.text)))
+    pub solved-agree : (answer : Answer) → takes_answer job.command ≡ false →
+        IsBlankFrom input end → IsSolved job.command job.nodes problem answer →
+        AnswersAgree job input (Solved answer)
+    solved-agree answer alone blank is other a =
+        solved-known answer alone blank is other (is-behind other a)
 
-    -- or it is right, and judged
-    pub judged-agree : (answer : Answer) (judgement : Judgement) → job.command ≡ Check →
-        IsSaidOf problem answer judgement →
-        ((other : Answer) → IsAnswerText (length problem.orders) other behind → other ≡ answer) →
-        ((number : ℕ) → IsBadLine (length problem.orders) behind number → ⊥) →
-        AnswersAgree job input (Judged judgement)
-    judged-agree answer judgement checks is only none WrongWords a = absurd a
-    judged-agree answer judgement checks is only none (Refused (TooLong limit)) a =
-        absurd (not-long limit front.within a.0 a.1)
-    judged-agree answer judgement checks is only none (Refused (BadByte byte)) a =
-        absurd (front.unrefused _ a.1)
-    judged-agree answer judgement checks is only none (Refused (Short token)) a =
-        absurd (front.unrefused _ a.1)
-    judged-agree answer judgement checks is only none (Refused (OutOfRange what token)) a =
-        absurd (front.unrefused _ a.1)
-    judged-agree answer judgement checks is only none (Refused (Rest at)) a =
-        absurd (not-both job.command a.command checks)
-    judged-agree answer judgement checks is only none (Refused (AnswerLine number)) a =
-        let same = same-lines a.problem a.lines a.behind in
-        absurd (none number (subst (λ p. IsBadLine (length p.orders) behind number) same.0
-        (subst (λ lines. IsBadLine (length a.problem.orders) lines number) same.1 a.bad)))
-    judged-agree answer judgement checks is only none (Solved other) a =
-        absurd (not-both job.command a.1.command checks)
-    judged-agree answer judgement checks is only none (Judged other) a =
-        let same = same-lines a.0 a.2.lines a.2.behind in
-        let text = subst (λ p. IsAnswerText (length p.orders) a.1 behind) same.0
-        (subst (λ lines. IsAnswerText (length a.0.orders) a.1 lines) same.1 a.2.text) in
-        ap Judged (said-once problem answer judgement other is
-        (subst (λ given. IsSaidOf problem given other) (only a.1 text)
-        (subst (λ p. IsSaidOf p a.1 other) same.0 a.3)))
+    -- An answer follows, and this is what its reader gives.
+    module _ (followed : takes_answer job.command ≡ true)
+        (read : Result Answer AnswerTextError)
+        (answers : (answer : Answer) → IsAnswerText (length problem.orders) answer behind →
+        (read ≡ Ok answer) ⊎ (read ≡ Err error.OutOfMemory))
+        (bad_line : (number : ℕ) → IsBadLine (length problem.orders) behind number →
+        (read ≡ Err (error.BadLine number)) ⊎ (read ≡ Err error.OutOfMemory))
+        (not_rising : (number : ℕ) → IsNotRising (length problem.orders) behind number →
+        (read ≡ Err (error.NotRising number)) ⊎ (read ≡ Err error.OutOfMemory))
+        (count : (stated found : ℕ) →
+        CountIsOther (length problem.orders) behind stated found →
+        (read ≡ Err (error.CountDiffers stated found)) ⊎ (read ≡ Err error.OutOfMemory)) where
+      -- it has a wrong line, or another count
+      fault-known : (why : AnswerTextError) → read ≡ Err why → why ≢ error.OutOfMemory →
+          (other : Outcome) → IsBehind other → Agree (Refused (answer_refusal why)) other
+      fault-known why is memory WrongWords a = absurd a
+      fault-known why is memory (Refused (TooLong limit)) a = absurd a
+      fault-known why is memory (Refused (BadByte byte)) a = absurd a
+      fault-known why is memory (Refused (Short token)) a = absurd a
+      fault-known why is memory (Refused (OutOfRange what token)) a = absurd a
+      fault-known why is memory (Refused (Rest at)) a =
+          absurd (either-way job.command a.0 followed)
+      fault-known why is memory (Refused (AnswerLine number)) a =
+          ap (λ w. Refused (answer_refusal w))
+          (one-error read why (error.BadLine number) is memory (bad_line number a.1))
+      fault-known why is memory (Refused (AnswerNotRising number)) a =
+          ap (λ w. Refused (answer_refusal w))
+          (one-error read why (error.NotRising number) is memory (not_rising number a.1))
+      fault-known why is memory (Refused (AnswerCount stated found)) a =
+          ap (λ w. Refused (answer_refusal w))
+          (one-error read why (error.CountDiffers stated found) is memory
+          (count stated found a.1))
+      fault-known why is memory (Refused AnswerKind) a =
+          absurd (no-answer read why a.1 is memory (answers a.1 a.2))
+      fault-known why is memory (Solved answer) a =
+          absurd (either-way job.command a.0 followed)
+      fault-known why is memory (Judged judgement) a =
+          absurd (no-answer read why a.1 is memory (answers a.1 a.2))
+
+      pub fault-agree : (why : AnswerTextError) → read ≡ Err why → why ≢ error.OutOfMemory →
+          AnswersAgree job input (Refused (answer_refusal why))
+      fault-agree why is memory other a =
+          fault-known why is memory other (is-behind other a)
+
+      -- or it is right, and this is what is said of it
+      said-known : (answer : Answer) → read ≡ Ok answer → (own : Outcome) →
+          IsSaidFor job.command problem answer own → (other : Outcome) → IsBehind other →
+          IsSaidFor job.command problem answer other
+      said-known answer is own said WrongWords a = a
+      said-known answer is own said (Refused (TooLong limit)) a = a
+      said-known answer is own said (Refused (BadByte byte)) a = a
+      said-known answer is own said (Refused (Short token)) a = a
+      said-known answer is own said (Refused (OutOfRange what token)) a = a
+      said-known answer is own said (Refused (Rest at)) a =
+          either-way job.command a.0 followed
+      said-known answer is own said (Refused (AnswerLine number)) a =
+          no-error read answer (error.BadLine number) is (bad_line number a.1)
+      said-known answer is own said (Refused (AnswerNotRising number)) a =
+          no-error read answer (error.NotRising number) is (not_rising number a.1)
+      said-known answer is own said (Refused (AnswerCount stated found)) a =
+          no-error read answer (error.CountDiffers stated found) is (count stated found a.1)
+      said-known answer is own said (Refused AnswerKind) a =
+          (a.0, subst ProvesNothing (one-answer read answer a.1 is (answers a.1 a.2)) a.3)
+      said-known answer is own said (Solved other) a =
+          either-way job.command a.0 followed
+      said-known answer is own said (Judged judgement) a =
+          subst (λ given. IsJudgedBy job.command problem given judgement)
+          (one-answer read answer a.1 is (answers a.1 a.2)) a.3
+
+      pub said-agree : (answer : Answer) → read ≡ Ok answer → (own : Outcome) →
+          IsSaidFor job.command problem answer own → AnswersAgree job input own
+      said-agree answer is own said other a =
+          same-agree job.command problem answer own other said
+          (said-for-once job.command problem answer own other said
+          (said-known answer is own said other (is-behind other a)))
+
+-- What is said where an answer was read, or why its text was refused, is the job's answer.
+module _ (job : Job) (input : List ℕ) (problem : Problem) (lines : List (List ℕ))
+    (has : HasLines job input problem lines) where
+  pub said-answers : (answer : Answer) → IsAnswerText (length problem.orders) answer lines →
+      (outcome : Outcome) → IsSaidFor job.command problem answer outcome →
+      IsAnswer job input outcome
+  said-answers answer text WrongWords said = said
+  said-answers answer text (Solved other) said = absurd said
+  said-answers answer text (Judged judgement) said =
+      (problem, answer, record { lines = lines; behind = has; text = text }, said)
+  said-answers answer text (Refused (TooLong limit)) said = absurd said
+  said-answers answer text (Refused (BadByte at)) said = absurd said
+  said-answers answer text (Refused (Short token)) said = absurd said
+  said-answers answer text (Refused (OutOfRange what token)) said = absurd said
+  said-answers answer text (Refused (Rest at)) said = absurd said
+  said-answers answer text (Refused (AnswerLine number)) said = absurd said
+  said-answers answer text (Refused (AnswerNotRising number)) said = absurd said
+  said-answers answer text (Refused (AnswerCount stated found)) said = absurd said
+  said-answers answer text (Refused AnswerKind) said = record {
+    command = said.0;
+    problem = problem;
+    answer = answer;
+    given = record { lines = lines; behind = has; text = text };
+    kind = said.1;
+  }
+
+  pub fault-answers : (why : AnswerTextError) → why ≢ error.OutOfMemory →
+      ((number : ℕ) → why ≡ error.BadLine number →
+      IsBadLine (length problem.orders) lines number) →
+      ((number : ℕ) → why ≡ error.NotRising number →
+      IsNotRising (length problem.orders) lines number) →
+      ((stated found : ℕ) → why ≡ error.CountDiffers stated found →
+      CountIsOther (length problem.orders) lines stated found) →
+      IsAnswer job input (Refused (answer_refusal why))
+  fault-answers (error.BadLine number) memory bad rise count =
+      record { problem = problem; lines = lines; behind = has; fault = bad number refl }
+  fault-answers (error.NotRising number) memory bad rise count =
+      record { problem = problem; lines = lines; behind = has; fault = rise number refl }
+  fault-answers (error.CountDiffers stated found) memory bad rise count =
+      record { problem = problem; lines = lines; behind = has; fault = count stated found refl }
+  fault-answers error.OutOfMemory memory bad rise count = absurd (memory refl)
 
 -- what a job is answered to told bytes
 served-agree : (job other : Job) (left : Option (List ℕ)) (own : Outcome) → other ≡ job →
@@ -260,28 +473,3 @@ wrong-agree words left none WrongWords right = refl
 wrong-agree words left none (Refused why) right = absurd (none right.0 right.1)
 wrong-agree words left none (Solved answer) right = absurd (none right.0 right.1)
 wrong-agree words left none (Judged judgement) right = absurd (none right.0 right.1)
-
--- What the reader of answers gives is one thing.
-pub ok-only : (a b : Answer) →
-    (◌≡◌ {A = Result Answer AnswerTextError} (Ok a) (Ok b))
-    ⊎ (◌≡◌ {A = Result Answer AnswerTextError} (Ok a) (Err OutOfMemory)) → b ≡ a
-ok-only a b (inl e) = cc
-ok-only a b (inr e) = absurd (cc)
-
-pub ok-none : (a : Answer) (why : AnswerTextError) →
-    (◌≡◌ {A = Result Answer AnswerTextError} (Ok a) (Err why))
-    ⊎ (◌≡◌ {A = Result Answer AnswerTextError} (Ok a) (Err OutOfMemory)) → ⊥
-ok-none a why (inl e) = absurd (cc)
-ok-none a why (inr e) = absurd (cc)
-
-pub line-only : (l m : ℕ) →
-    (◌≡◌ {A = Result Answer AnswerTextError} (Err (BadLine l)) (Err (BadLine m)))
-    ⊎ (◌≡◌ {A = Result Answer AnswerTextError} (Err (BadLine l)) (Err OutOfMemory)) → l ≡ m
-line-only l m (inl e) = cc
-line-only l m (inr e) = absurd (cc)
-
-pub line-none : (l : ℕ) (a : Answer) →
-    (◌≡◌ {A = Result Answer AnswerTextError} (Err (BadLine l)) (Ok a))
-    ⊎ (◌≡◌ {A = Result Answer AnswerTextError} (Err (BadLine l)) (Err OutOfMemory)) → ⊥
-line-none l a (inl e) = absurd (cc)
-line-none l a (inr e) = absurd (cc)

@@ -1,74 +1,28 @@
 -- Words that ask for a job: how they begin, and that they ask for no other.
-use Rattle.std.proofs.Common.{
-  ◌≡◌,
-  ℕ,
-  suc,
-  ◌+◌,
-  ◌-◌,
-  ◌<◌,
-  ◌≤◌,
-  Bool,
-  true,
-  false,
-  cond,
-  List,
-  [],
-  ◌∷◌,
-  ◌++◌,
-  length,
-  take,
-  drop,
-  refl,
-  sym,
-  ap,
-  ap₂,
-  ◌∙◌,
-  subst,
-  arith,
-  append_assoc,
-  append-nil,
-  length-append,
-  ◌⊎◌,
-  inl,
-  inr,
-  get_or,
-  slice_get,
-  add-one,
-}
-use Rattle.std.specs.Prelude.{Option, Some, None, unwrap_or, String, string_bytes}
+use Rattle.std.proofs.Common.{◌≡◌, ℕ, suc, ◌+◌, ◌-◌, ◌<◌, ◌≤◌, Bool, true, false, cond, List, []}
+use Rattle.std.proofs.Common.{◌∷◌, ◌++◌, length, take, drop, refl, sym, ap, ap₂, ◌∙◌, subst, arith}
+use Rattle.std.proofs.Common.{append_assoc, append-nil, length-append, ◌⊎◌, inl, inr, get_or}
+use Rattle.std.proofs.Common.{slice_get, add-one}
+use Rattle.std.specs.Prelude.{Option, Some, None, unwrap_or, find, String, string_bytes}
+use Rattle.std.specs.Str.{bytes_eq}
 use Rattle.std.specs.declared.alloc.Global.{Global}
 use Rattle.std.specs.List.{AllByRecursion}
 use Rattle.std.proofs.Math.Seq.{take-suc}
 use Rattle.std.proofs.lemmas.Bool.{cases_order}
 use Rattle.std.proofs.lemmas.List.{take-append-drop, take_all, take-take, get_or-map, length-map}
 use Rattle.std.specs.Str.Parse.{digits_value}
+use Rattle.std.proofs.lemmas.Slice.Eq.{bytes_eq-Decides}
 use Rattle.slab_top.specs.declared.words.Command.{Command}
-use Rattle.slab_top.specs.declared.words.Command.TheVariants.{Solve, Check}
+use Rattle.slab_top.specs.declared.words.Command.TheVariants.{Solve, Prove}
+use Rattle.slab_top.specs.declared.words.Command.TheVariants.{Check, Verify}
 use Rattle.slab_top.specs.declared.words.Setting.{Setting}
-use Rattle.slab_top.specs.declared.words.Setting.TheVariants.{Colours}
+use Rattle.slab_top.specs.declared.words.Setting.TheVariants.{Nodes, Colours}
 use Rattle.slab_top.specs.declared.words.Job.{Job}
 use Rattle.slab_top.specs.Reading.{HasRead, held_for}
-use Rattle.slab_top.specs.Words.{
-  texts,
-  Given,
-  words_of,
-  spelling,
-  name_of,
-  allows,
-  least,
-  greatest,
-  default,
-  same_setting,
-  number_for,
-  or_default,
-  AreOnce,
-  IsNumberFor,
-  IsRightFor,
-  Spell,
-  AskFor,
-  Begin,
-  IsWrongAt,
-}
+use Rattle.slab_top.specs.Words.{texts, Given, words_of, spelling, name_of, allows, least, greatest}
+use Rattle.slab_top.specs.Words.{default, same_setting, number_for, or_default, AreOnce}
+use Rattle.slab_top.specs.Words.{IsNumberFor, IsRightFor, Spell, AskFor, IsInRange, Begin}
+use Rattle.slab_top.specs.Words.{IsWrongAt}
 
 true-or-false : (b : Bool) → (b ≡ true) ⊎ (b ≡ false)
 true-or-false true = inl refl
@@ -84,38 +38,93 @@ text-at words place word within here =
 pub texts-count : (words : List (String Global)) → length (texts words) ≡ length words
 texts-count words = length-map words string_bytes
 
--- settings and commands are told apart, and by their names
+-- settings and commands are told apart by their names, which lead back to them
 
-same-setting-refl : (s : Setting) → same_setting s s ≡ true
-same-setting-refl Colours = refl
+some-same : {X : Type 0} (a b : X) → ◌≡◌ {A = Option X} (Some a) (Some b) → a ≡ b
+some-same a b e = cc
 
-same-settings : (s t : Setting) → same_setting s t ≡ true → s ≡ t
-same-settings Colours Colours e = refl
+setting-named : List ℕ → Option Setting
+setting-named word = find (λ s. bytes_eq (name_of s) word) (Nodes ∷ Colours ∷ [])
 
-same-setting-sym : (s t : Setting) → same_setting s t ≡ same_setting t s
-same-setting-sym Colours Colours = refl
+name-leads-back : (s : Setting) → setting-named (name_of s) ≡ Some s
+unfolding setting-named
+name-leads-back Nodes = refl
+name-leads-back Colours = refl
 
 pub name-once : (s t : Setting) → name_of s ≡ name_of t → s ≡ t
-name-once Colours Colours e = refl
+name-once s t e =
+    some-same s t (sym (name-leads-back s) ∙ ap setting-named e ∙ name-leads-back t)
+
+command-spelt : List ℕ → Option Command
+command-spelt word = find (λ c. bytes_eq (spelling c) word) (Solve ∷ Prove ∷ Check ∷ Verify ∷ [])
+
+spelling-leads-back : (c : Command) → command-spelt (spelling c) ≡ Some c
+unfolding command-spelt
+spelling-leads-back Solve = refl
+spelling-leads-back Prove = refl
+spelling-leads-back Check = refl
+spelling-leads-back Verify = refl
 
 spelling-once : (c d : Command) → spelling c ≡ spelling d → c ≡ d
-spelling-once Solve Solve e = refl
-spelling-once Check Check e = refl
-spelling-once Solve Check e = let first : 115 ≡ 99 = ap (λ text. get_or text 0 0) e in
-    absurd (omega (arith, first))
-spelling-once Check Solve e = let first : 99 ≡ 115 = ap (λ text. get_or text 0 0) e in
-    absurd (omega (arith, first))
+spelling-once c d e =
+    some-same c d (sym (spelling-leads-back c) ∙ ap command-spelt e ∙ spelling-leads-back d)
 
--- some number is right for each setting
+same-settings : (s t : Setting) → same_setting s t ≡ true → s ≡ t
+same-settings s t e = name-once s t ((bytes_eq-Decides (name_of s) (name_of t)).0 e)
+
+same-setting-refl : (s : Setting) → same_setting s s ≡ true
+same-setting-refl s = (bytes_eq-Decides (name_of s) (name_of s)).1 refl
+
+same-setting-back : (s t : Setting) → same_setting s t ≡ true → same_setting t s ≡ true
+same-setting-back s t e =
+    (bytes_eq-Decides (name_of t) (name_of s)).1
+    (sym ((bytes_eq-Decides (name_of s) (name_of t)).0 e))
+
+same-setting-sym : (s t : Setting) → same_setting s t ≡ same_setting t s
+same-setting-sym s t = elim (true-or-false (same_setting s t)) [
+  | inl same ↦ same ∙ sym (same-setting-back s t same)
+  | inr other ↦ elim (true-or-false (same_setting t s)) [
+    | inl back ↦ (let same = same-setting-back t s back in absurd (cc))
+    | inr apart ↦ other ∙ sym apart
+  ]
+]
+
+-- the digit 1 is a right number for each setting
 a-number : (s : Setting) → (word : List ℕ) × IsNumberFor s word
-a-number Colours = (
-  49 ∷ [],
-  record {
-    digits = (omega arith, (omega arith, tt));
-    low = omega arith;
-    high = omega arith;
-  },
-)
+a-number s = (49 ∷ [], one s)
+  where
+    one : (s : Setting) → IsNumberFor s (49 ∷ [])
+    one Nodes = record {
+      digits = (omega arith, (omega arith, tt));
+      low = omega arith;
+      high = omega arith;
+    }
+    one Colours = record {
+      digits = (omega arith, (omega arith, tt));
+      low = omega arith;
+      high = omega arith;
+    }
+
+-- the job of a command with options
+pub job-of : Command → List Given → Job
+job-of c options = record {
+  command = c;
+  nodes = or_default Nodes (number_for Nodes options);
+  p = or_default Colours (number_for Colours options);
+}
+
+job-asked : (words : List (List ℕ)) (c : Command) (options : List Given) →
+    Spell words c options → AskFor words (job-of c options)
+unfolding job-of
+job-asked words c options spell =
+    record { options = options; spell = spell; nodes = refl; colours = refl }
+
+pub asked-job : (words : List (List ℕ)) (job : Job) (asked : AskFor words job) →
+    job ≡ job-of job.command asked.options
+unfolding job-of
+asked-job words job asked =
+    ap₂ (λ nodes p. record { command = job.command; nodes = nodes; p = p }) asked.nodes
+    asked.colours
 
 -- options with one more behind them
 
@@ -225,14 +234,11 @@ module _ (words : List (List ℕ)) (place : ℕ) (c : Command) (options : List G
       take (place + 1) words ≡ take place words ++ get_or words place [] ∷ []
   one-more within = rw add-one (take-suc words place [] within)
 
-  abbrev job-so-far : Job
-  job-so-far = record { command = c; p = or_default Colours (number_for Colours options) }
-
   pub front-begins : Begin (take place words)
   front-begins = record {
-    job = job-so-far;
+    job = job-of c options;
     more = [];
-    asked = record { options = options; spell = rw append-nil spell; colours = refl };
+    asked = job-asked _ c options (rw append-nil spell);
   }
 
   -- what the options are where right words begin so and go on
@@ -302,13 +308,10 @@ module _ (words : List (List ℕ)) (place : ℕ) (c : Command) (options : List G
         let number = a-number s in
         let all = options ++ record { setting = s; number = number.0 } ∷ [] in
         record {
-          job = record { command = c; p = or_default Colours (number_for Colours all) };
+          job = job-of c all;
           more = number.0 ∷ [];
-          asked = record {
-            options = all;
-            spell = rw (with-name, append_assoc) (with-option number.0 number.1);
-            colours = refl;
-          };
+          asked = job-asked _ c all
+              (rw (with-name, append_assoc) (with-option number.0 number.1));
         }
 
     -- and its number is missing
@@ -378,13 +381,9 @@ pub wrong-command : (words : List (List ℕ)) → ((c : Command) (rest : List (L
 wrong-command words none = record {
   within = omega arith;
   right = record {
-    job = record { command = Solve; p = 2 };
+    job = job-of Solve [];
     more = spelling Solve ∷ [];
-    asked = record {
-      options = [];
-      spell = record { are = refl; right = tt; once = tt };
-      colours = refl;
-    };
+    asked = job-asked _ Solve [] (record { are = refl; right = tt; once = tt });
   };
   wrong = λ some begin. no-command words none some begin;
   missing = λ end job asked. none job.command (words_of asked.options) asked.spell.are;
@@ -450,9 +449,8 @@ asked-only words a b first second =
     let none = no-words more.0 more.2 in
     let options : first.options ≡ second.options =
     more.1 ∙ ap (λ back. second.options ++ back) none ∙ append-nil second.options in
-    ap₂ (λ c p. record { command = c; p = p }) (spelling-once a.command b.command command)
-    (first.colours ∙ ap (λ list. or_default Colours (number_for Colours list)) options
-    ∙ sym second.colours)
+    asked-job words a first ∙ ap₂ job-of (spelling-once a.command b.command command) options
+    ∙ sym (asked-job words b second)
   where
     no-words : (options : List Given) → words_of options ≡ [] → options ≡ []
     no-words [] e = refl
@@ -460,7 +458,7 @@ asked-only words a b first second =
 
 -- a command alone was read
 pub read-command : (words : List (List ℕ)) (c : Command) → slice_get words 0 ≡ Some (spelling c) →
-    HasRead c (take 1 words) (record { colours = None })
+    HasRead c (take 1 words) (record { nodes = None; colours = None })
 read-command [] c e = absurd (cc)
 read-command (word ∷ rest) c e = record {
   options = [];
@@ -472,10 +470,8 @@ read-command (word ∷ rest) c e = record {
   held = held;
 }
   where
-    some-same : (a b : List ℕ) → ◌≡◌ {A = Option (List ℕ)} (Some a) (Some b) → a ≡ b
-    some-same a b e = cc
-
-    held : (s : Setting) → held_for s (record { colours = None }) ≡ number_for s []
+    held : (s : Setting) → held_for s (record { nodes = None; colours = None }) ≡ number_for s []
+    held Nodes = refl
     held Colours = refl
 
 -- the first word is missing, or is no command
@@ -502,10 +498,11 @@ other-first words first here other = wrong-command (texts words) (no-command wor
         other c (ap string_bytes same ∙ spelt)
 
 -- numbers are in their ranges, also where none is given
-pub in-range : (s : Setting) (c : Command) (options : List Given) →
+in-range : (s : Setting) (c : Command) (options : List Given) →
     AllByRecursion (IsRightFor c) options →
     (least s ≤ or_default s (number_for s options))
     × (or_default s (number_for s options) ≤ greatest s)
+in-range Nodes c [] right = (omega arith, omega arith)
 in-range Colours c [] right = (omega arith, omega arith)
 in-range s c (option ∷ options) right = elim (true-or-false (same_setting s option.setting)) [
   | inl same ↦
@@ -514,6 +511,16 @@ in-range s c (option ∷ options) right = elim (true-or-false (same_setting s op
       rw same (is.low, is.high))
   | inr other ↦ rw other (in-range s c options right.1)
 ]
+
+pub asked-in-range : (words : List (List ℕ)) (job : Job) → AskFor words job → IsInRange job
+asked-in-range words job asked =
+    let nodes = in-range Nodes job.command asked.options asked.spell.right in
+    let colours = in-range Colours job.command asked.options asked.spell.right in
+    record {
+      few_nodes = subst (λ n. n ≤ greatest Nodes) (sym asked.nodes) nodes.1;
+      some_colour = subst (λ p. least Colours ≤ p) (sym asked.colours) colours.0;
+      few_colours = subst (λ p. p ≤ greatest Colours) (sym asked.colours) colours.1;
+    }
 
 pub unwrapped : (s : Setting) (number : Option ℕ) (d : ℕ) → d ≡ default s →
     unwrap_or number d ≡ or_default s number

@@ -1,10 +1,13 @@
 pub mod Names
+pub mod Rules
 pub mod Grammar
-pub mod Tidy
-pub mod Covered
 pub mod Behind
 pub mod Charged
+pub mod Alone
+pub mod Solved
 pub mod Once
+pub mod Said
+pub mod Verified
 pub mod Served
 pub mod Exact
 pub mod Pieces

@@ -1,5 +1,6 @@
 -- A text that is written in pieces.
-use Rattle.std.proofs.Common.{◌≡◌, ℕ, zero, suc, ◌<◌, List, [], ◌∷◌, ◌++◌, ◌∙◌, ap, sym, refl, subst}
+use Rattle.std.proofs.Common.{◌≡◌, ℕ, zero, suc, ◌<◌, List, [], ◌∷◌, ◌++◌, ◌∙◌, ap, sym, refl}
+use Rattle.std.proofs.Common.{subst}
 use Rattle.std.proofs.Common.{length, take, drop, get_or, append_assoc, arith}
 use Rattle.std.specs.Prelude.{Option, flat_map}
 use Rattle.std.specs.Io.KnownBytes.{Appends}
@@ -40,4 +41,5 @@ pieces-at piece (y ∷ xs) zero x inside here =
     ap (λ first. piece first ++ flat_map piece xs) (sym first)
 pieces-at piece (y ∷ xs) (suc i) x inside here =
     ap (λ text. piece y ++ text) (pieces-at piece xs i x (omega arith) here)
-    ∙ sym (append_assoc (piece y) (flat_map piece (take i xs)) (piece x ++ flat_map piece (drop (suc i) xs)))
+    ∙ sym (append_assoc (piece y) (flat_map piece (take i xs)) (piece x ++ flat_map piece (drop
+    (suc i) xs)))

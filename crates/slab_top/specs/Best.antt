@@ -1,7 +1,8 @@
--- The best plans of a problem.
-use Rattle.std.specs.Prelude.{ℕ, ◌+◌, ◌≡◌, ◌≤◌, List, length, slice_index, Option, Some, None}
+-- The best plans of a problem, and those that a search has found when its budget is spent.
+use Rattle.std.specs.Prelude.{ℕ, ◌+◌, ◌≡◌, ◌<◌, ◌≤◌, List, length, slice_index, sum_by}
 use Rattle.mill_model.specs.Instance.{Problem, largest, mill_of, loss_charge}
 use Rattle.mill_model.specs.Plan.{IsLegalPlan, NoneLosesLess, loss}
+use Rattle.mill_model.specs.Size.{enough}
 use Rattle.mill_model.specs.Tree.{canonical}
 use Rattle.mill_model.specs.declared.plan.Start.{Start}
 
@@ -28,12 +29,14 @@ pub record IsBest (problem : Problem) (start : Start) : Type 0 where
   pub found : IsTidyPlan problem start
   pub least : NoneLosesLess (mill_of problem) (loss_charge problem.sizes) problem.orders start.loss
 
--- the best plan so far loses at most so much
-abbrev pub LosesAtMost : Option Start → ℕ → Type 0
-LosesAtMost None u = ⊥
-LosesAtMost (Some start) u = start.loss ≤ u
+-- what is lost where each order has a slab of its own
+abbrev pub loss_alone : Problem → ℕ
+loss_alone problem = sum_by (λ order. loss_charge problem.sizes order.weight) problem.orders
 
--- a table has the charge of each load, up to the largest size
-pub record AreCharges (problem : Problem) (charges : List ℕ) : Type 0 where
-  pub reach : length charges ≡ largest problem.sizes + 1
-  pub each : (load : ℕ) → slice_index charges load ≡ loss_charge problem.sizes load
+-- Such a plan, where a search spent its budget of so many nodes: it loses no more than each order
+-- alone, and the budget isn't enough for the tree of so many orders.
+pub record IsFeasible (nodes : ℕ) (problem : Problem) (start : Start) (spent : ℕ) : Type 0 where
+  pub found : IsTidyPlan problem start
+  pub no_worse : start.loss ≤ loss_alone problem
+  pub whole_budget : spent ≡ nodes
+  pub small_budget : nodes < enough (length problem.orders)

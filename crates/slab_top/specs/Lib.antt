@@ -1,9 +1,11 @@
 pub mod Best
+pub mod Search
 pub mod Words
 pub mod Table
 pub mod Reading
 pub mod Heavy
 pub mod Judgement
+pub mod Verify
 pub mod Outcome
 pub mod Answer
 pub mod Front

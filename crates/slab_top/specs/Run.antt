@@ -1,8 +1,15 @@
 -- What a run ends with: its status, and what it has read.
 use Rattle.std.specs.Prelude.{◌≢◌, ℕ, ◌≤◌, List, [], ◌∷◌, length, IsTrue}
+use Rattle.mill_model.specs.Instance.{Problem}
 use Rattle.mill_model.specs.Sets.{holds}
+use Rattle.mill_model.specs.Size.{enough}
 use Rattle.slab_top.specs.declared.words.Job.{Job}
+use Rattle.slab_top.specs.Answer.{IsInstanceInput}
 use Rattle.slab_top.specs.Words.{AskFor, limit_of}
+
+-- the status of a feasible plan, where a search spent its budget
+abbrev pub feasible : ℕ
+feasible = 4
 
 -- the statuses that tell of a failure: of a read, of a write, and want of memory
 abbrev pub read_fault : ℕ
@@ -17,7 +24,8 @@ out_of_memory = 7
 -- the statuses that a run ends with
 abbrev pub IsStatus : ℕ → Type 0
 IsStatus status =
-    IsTrue (holds status (0 ∷ 1 ∷ 2 ∷ 3 ∷ read_fault ∷ write_fault ∷ out_of_memory ∷ 8 ∷ []))
+    IsTrue (holds status (0 ∷ 1 ∷ 2 ∷ 3 ∷ feasible ∷ read_fault ∷ write_fault ∷ out_of_memory ∷ 8 ∷
+    []))
 
 -- the status tells of no failure
 pub record IsAnswered (status : ℕ) : Type 0 where
@@ -30,3 +38,12 @@ pub record IsToBeRead (words : List (List ℕ)) (input : List ℕ) : Type 0 wher
   pub job : Job
   pub asked : AskFor words job
   pub within : length input ≤ limit_of job.command
+
+-- the words ask for a plan of the instance that is the input, with a budget that is enough for so
+-- many orders
+pub record HasEnough (words : List (List ℕ)) (input : List ℕ) : Type 0 where
+  pub job : Job
+  pub asked : AskFor words job
+  pub problem : Problem
+  pub text : IsInstanceInput job input problem
+  pub budget : enough (length problem.orders) ≤ job.nodes

@@ -6,18 +6,24 @@ mod check;
 mod judgement;
 mod outcome;
 mod run;
-mod search;
 mod solve;
 mod table;
 mod usage;
+mod verify;
 mod words;
 
 pub use run::run_plain;
 pub use words::{Command, Job, Usage, read_words};
 
 #[cfg(test)]
+mod exhaustive;
+#[cfg(test)]
 mod tests;
 #[cfg(test)]
 mod tests_check;
+#[cfg(test)]
+mod tests_solve;
+#[cfg(test)]
+mod tests_verify;
 #[cfg(test)]
 mod tests_words;

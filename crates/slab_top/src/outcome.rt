@@ -23,6 +23,12 @@ pub enum Refusal {
     Rest { at: usize },
     /// The answer behind the instance has its first wrong line here, or lacks this line.
     AnswerLine { line: u64 },
+    /// This line of the answer is a record whose path doesn't come after the one before.
+    AnswerNotRising { line: u64 },
+    /// The answer's log states another number of records than it has.
+    AnswerCount { stated: u64, found: u64 },
+    /// The answer has a plan without a log: there is nothing to verify.
+    AnswerKind,
 }
 
 /// What a run answers.
@@ -32,7 +38,7 @@ pub enum Outcome {
     WrongWords,
     /// The input was refused.
     Refused(Refusal),
-    /// What a plan of the least loss is, or that there is no legal plan.
+    /// A plan of the least loss or the best so far, or that there is no legal plan.
     Solved(Answer),
     /// What is said of the answer that was given.
     Judged(Judgement),
@@ -62,7 +68,7 @@ impl Outcome {
             Outcome::WrongWords => unreachable!(),
             Outcome::Refused(why) => Ok(refusal_text(alloc, *why)?.into_bytes()),
             Outcome::Solved(answer) => print_answer(alloc, answer),
-            Outcome::Judged(judgement) => Ok(judgement.text(alloc)?.into_bytes()),
+            Outcome::Judged(judgement) => judgement.text(alloc),
         }
     }
 }
@@ -70,16 +76,24 @@ impl Outcome {
 fn refusal_text(alloc: Global, why: Refusal) -> Result<String, AllocError>
     ensures { IfOk result (λ text. string_bytes text ≡ text_of (Refused why)) }
 {
-    let text = match why {
-        Refusal::TooLong { limit } => format!(in alloc; "refused long {limit}\n")?,
-        Refusal::BadByte { at } => format!(in alloc; "refused instance byte {at}\n")?,
-        Refusal::Short { token } => format!(in alloc; "refused instance short token {token}\n")?,
+    match why {
+        Refusal::TooLong { limit } => Ok(format!(in alloc; "refused long {limit}\n")?),
+        Refusal::BadByte { at } => Ok(format!(in alloc; "refused instance byte {at}\n")?),
+        Refusal::Short { token } => Ok(format!(in alloc;
+            "refused instance short token {token}\n"
+        )?),
         Refusal::OutOfRange { what, token } => {
             let name = what.name();
-            format!(in alloc; "refused instance range {name} token {token}\n")?
+            Ok(format!(in alloc; "refused instance range {name} token {token}\n")?)
         }
-        Refusal::Rest { at } => format!(in alloc; "refused rest byte {at}\n")?,
-        Refusal::AnswerLine { line } => format!(in alloc; "refused answer line {line}\n")?,
-    };
-    Ok(text)
+        Refusal::Rest { at } => Ok(format!(in alloc; "refused rest byte {at}\n")?),
+        Refusal::AnswerLine { line } => Ok(format!(in alloc; "refused answer line {line}\n")?),
+        Refusal::AnswerNotRising { line } => {
+            Ok(format!(in alloc; "refused answer line {line} not rising\n")?)
+        }
+        Refusal::AnswerCount { stated, found } => {
+            Ok(format!(in alloc; "refused answer count stated {stated} found {found}\n")?)
+        }
+        Refusal::AnswerKind => Ok(format!(in alloc; "refused answer kind\n")?),
+    }
 }

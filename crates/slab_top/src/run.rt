@@ -3,11 +3,11 @@ ghost use Rattle.std.specs.Prelude.{IsErrOf};
 ghost use Rattle.std.specs.Io.KnownBytes.{Appends, IsAtEnd};
 ghost use Rattle.mill_io.specs.Causes.{Rose};
 ghost use Rattle.mill_io.specs.Bytes.{AppendsFront};
-ghost use Rattle.slab_top.specs.Words.{AskFor, limit_of, texts};
-ghost use Rattle.slab_top.specs.Outcome.{status_of, text_of, IsToTell};
+ghost use Rattle.slab_top.specs.Words.{AskFor, IsInRange, limit_of, texts};
+ghost use Rattle.slab_top.specs.Outcome.{status_of, text_of, IsToTell, MayEndWith};
 ghost use Rattle.slab_top.specs.Answer.{Agree, AnswersAgree, IsRight, IsServed};
 ghost use Rattle.slab_top.specs.Run.{IsAnswered, IsStatus, IsToBeRead, read_fault, write_fault};
-ghost use Rattle.slab_top.specs.Run.{out_of_memory};
+ghost use Rattle.slab_top.specs.Run.{HasEnough, feasible, out_of_memory};
 ghost use Rattle.slab_top.specs.declared.outcome.Outcome.{Outcome};
 ghost use Rattle.slab_top.specs.declared.words.Job.{Job};
 
@@ -35,8 +35,7 @@ enum Stop {
 
 // What a job answers to a source.
 fn outcome_of<S: Source>(alloc: Global, job: Job, source: &mut S) -> Result<Outcome, Stop>
-    requires some_colour { 1 ≤ job.p }
-    requires few_colours { job.p ≤ 8 }
+    requires in_range { IsInRange job }
     ensures served { IfOk result (IsServed job (S.left source.old)) }
     ensures exact { IfOk result (λ outcome. IfSome (S.left source.old) (λ input.
         AnswersAgree job input outcome)) }
@@ -85,14 +84,15 @@ fn write_out<K: Sink>(sink: &mut K, outcome: &Outcome, text: &[u8]) -> u8
 ///
 /// | status | where |
 /// |---|---|
-/// | 0 | `solve` wrote an optimal plan; or `check` accepted the answer |
-/// | 1 | `solve` wrote the first order that no slab holds |
+/// | 0 | `solve` or `prove` wrote an optimal plan; or `check` or `verify` accepted the answer |
+/// | 1 | `solve` or `prove` wrote the first order that no slab holds |
 /// | 2 | the words ask for nothing that the program does |
 /// | 3 | the input was refused |
+/// | 4 | `solve` or `prove` wrote a feasible plan: its budget was spent and a path was left |
 /// | 5 | a read failed; nothing was written |
 /// | 6 | a write failed; a front of the text was written |
 /// | 7 | want of memory; nothing was written |
-/// | 8 | `check` rejected the answer |
+/// | 8 | `check` or `verify` rejected the answer |
 pub fn run_plain<S: Source, K: Sink>(
     alloc: Global,
     words: &[String],
@@ -107,13 +107,17 @@ pub fn run_plain<S: Source, K: Sink>(
         × Appends (K.written sink.old) (K.written sink.new) (text_of outcome) }
 
     // Where the bytes are told, each outcome that is right has this status: it comes exactly there.
+    // Only whether a plan is optimal or feasible is left open, where the budget isn't enough.
     ensures exact { IsAnswered result → IsSome (S.left source.old) → (outcome : Outcome)
-        → IsRight (texts words.now) (S.left source.old) outcome → status_of outcome ≡ result }
+        → IsRight (texts words.now) (S.left source.old) outcome → MayEndWith outcome result }
+    ensures enough { IfSome (S.left source.old) (λ input.
+        HasEnough (texts words.now) input → result ≢ feasible) }
 
-    // And it is the outcome whose text was written, but for which of several best plans is told.
+    // And it agrees with the outcome whose text was written.
     ensures told { IsAnswered result → IsSome (S.left source.old) → (outcome : Outcome)
         → IsRight (texts words.now) (S.left source.old) outcome → (written : Outcome)
-        × Agree written outcome × Appends (K.written sink.old) (K.written sink.new) (text_of written) }
+        × Agree written outcome
+        × Appends (K.written sink.old) (K.written sink.new) (text_of written) }
 
     // Bytes that are to be read were read to the end, and else none was.
     ensures ended { IsAnswered result → IfSome (S.left source.old) (λ input.

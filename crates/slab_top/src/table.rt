@@ -22,9 +22,9 @@ pub type Row<T> = (&'static str, Option<T>);
 /// The commands, in the order of the usage line.
 pub const COMMANDS: [Row<Command>; 6] = [
     ("solve", Some(Command::Solve)),
-    ("prove", None),
+    ("prove", Some(Command::Prove)),
     ("check", Some(Command::Check)),
-    ("verify", None),
+    ("verify", Some(Command::Verify)),
     ("replay", None),
     ("drill", None),
 ];
@@ -32,12 +32,21 @@ pub const COMMANDS: [Row<Command>; 6] = [
 /// The options, in the order of the usage line.
 pub const OPTIONS: [Row<Rule>; 6] = [
     ("--workers", None),
-    ("--nodes", None),
+    ("--nodes", Some(NODES)),
     ("--colours", Some(COLOURS)),
     ("--moves", None),
     ("--seed", None),
     ("--orders", None),
 ];
+
+/// How many paths a search closes at most.
+pub const NODES: Rule = Rule {
+    setting: Setting::Nodes,
+    least: 0,
+    greatest: 1_000_000_000,
+    default: 20_000,
+    commands: &[Command::Solve, Command::Prove],
+};
 
 /// How many colours a slab may carry.
 pub const COLOURS: Rule = Rule {
@@ -45,7 +54,12 @@ pub const COLOURS: Rule = Rule {
     least: 1,
     greatest: 8,
     default: 2,
-    commands: &[Command::Solve, Command::Check],
+    commands: &[
+        Command::Solve,
+        Command::Prove,
+        Command::Check,
+        Command::Verify,
+    ],
 };
 
 /// What a word stands for.

@@ -206,7 +206,7 @@ fn colours_are_as_many_as_the_words_say(rt: HostRuntime) -> Result<(), Fail> {
 #[test]
 fn refuses_each_wrong_line(rt: HostRuntime) -> Result<(), Fail> {
     let alloc = rt.alloc();
-    let rows: [(&str, u64); 38] = [
+    let rows: [(&str, u64); 39] = [
         // Cut behind a line, and within one.
         ("", 1),
         ("\n \t\r\n", 1),
@@ -231,7 +231,8 @@ fn refuses_each_wrong_line(rt: HostRuntime) -> Result<(), Fail> {
         ("optimal\nloss 4 \nplan 1 1 2\nend\n", 2),
         ("optimal\nloss 4\nplan 1  1 2\nend\n", 3),
         ("optimal\nloss 4\nplan 1 1 2\nspent 1\nend\n", 4),
-        ("optimal\nloss 4\nplan 1 1 2\nlog 1 1\nL 0\nend\n", 4),
+        ("optimal\nloss 4\nplan 1 1 2\nlog 1\nL 0\nend\n", 4),
+        ("optimal\nloss 4\nplan 1 1 2\nlog 1 1\nL 4\nend\n", 5),
         ("feasible\nloss 4\nplan 1 1 2\nend\n", 4),
         // Numbers.
         ("optimal\nloss 04\nplan 1 1 2\nend\n", 2),

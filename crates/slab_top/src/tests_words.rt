@@ -11,20 +11,25 @@ const USAGE: &str =
 #[test]
 fn other_words_read_nothing(rt: HostRuntime) -> Result<(), Fail> {
     let alloc = rt.alloc();
-    let rows: [(&[&str], usize); 27] = [
+    let rows: [(&[&str], usize); 34] = [
         (&[], 0),
         (&["SOLVE"], 0),
         (&[""], 0),
         (&["SOLVE", "solve"], 0),
-        (&["prove"], 0),
-        (&["verify", "--moves", "1"], 0),
+        (&["replay"], 0),
+        (&["verify", "--nodes", "5"], 1),
+        (&["drill", "--moves", "1"], 0),
+        (&["prove", "--nodes", "1", "--nodes", "1"], 3),
         (&["--colours", "1", "solve"], 0),
         (&["solve", "x"], 1),
         (&["solve", ""], 1),
         (&["solve", "--foo"], 1),
-        (&["solve", "--nodes", "1"], 1),
+        (&["solve", "--workers", "65"], 1),
         (&["solve", "--colours=1"], 1),
         (&["check", "--nodes", "5"], 1),
+        (&["solve", "--nodes"], 2),
+        (&["solve", "--nodes", "-1"], 2),
+        (&["solve", "--nodes", "1000000001"], 2),
         (&["solve", "--colours"], 2),
         (&["check", "--colours"], 2),
         (&["solve", "--colours", ""], 2),
@@ -35,6 +40,8 @@ fn other_words_read_nothing(rt: HostRuntime) -> Result<(), Fail> {
         (&["solve", "--colours", "+1"], 2),
         (&["solve", "--colours", "1 "], 2),
         (&["solve", "--colours", "18446744073709551617"], 2),
+        (&["solve", "--nodes", "1", "--nodes", "1"], 3),
+        (&["solve", "--nodes", "5", "extra"], 3),
         (&["solve", "--colours", "1", "--colours", "1"], 3),
         (&["check", "--colours", "1", "--nodes", "1"], 3),
         (&["solve", "--colours", "5", "extra"], 3),
@@ -69,21 +76,43 @@ fn a_usage_line_is_cut(rt: HostRuntime) -> Result<(), Fail> {
 // Each row: words, and the job that they ask for.
 #[test]
 fn reads_each_row(rt: HostRuntime) -> Result<(), Fail> {
-    let rows: [(&[&str], Command, u8); 6] = [
-        (&["solve"], Command::Solve, 2),
-        (&["check"], Command::Check, 2),
-        (&["solve", "--colours", "1"], Command::Solve, 1),
-        (&["check", "--colours", "8"], Command::Check, 8),
-        (&["check", "--colours", "008"], Command::Check, 8),
+    let rows: [(&[&str], Command, u64, u8); 12] = [
+        (&["prove", "--nodes", "3"], Command::Prove, 3, 2),
+        (&["verify", "--colours", "1"], Command::Verify, 20_000, 1),
+        (&["solve"], Command::Solve, 20_000, 2),
+        (&["check"], Command::Check, 20_000, 2),
+        (&["solve", "--colours", "1"], Command::Solve, 20_000, 1),
+        (&["check", "--colours", "8"], Command::Check, 20_000, 8),
+        (&["check", "--colours", "008"], Command::Check, 20_000, 8),
         (
             &["solve", "--colours", "00000000000000000000000000000000003"],
             Command::Solve,
+            20_000,
+            3,
+        ),
+        (&["solve", "--nodes", "0"], Command::Solve, 0, 2),
+        (
+            &["solve", "--nodes", "1000000000"],
+            Command::Solve,
+            1_000_000_000,
+            2,
+        ),
+        (
+            &["solve", "--nodes", "007", "--colours", "2"],
+            Command::Solve,
+            7,
+            2,
+        ),
+        (
+            &["solve", "--colours", "3", "--nodes", "8"],
+            Command::Solve,
+            8,
             3,
         ),
     ];
-    for (row, command, p) in rows {
+    for (row, command, nodes, p) in rows {
         let words = words_of(rt.alloc(), row)?;
-        assert_eq!(rt; read_words(&words), Ok(Job { command, p }));
+        assert_eq!(rt; read_words(&words), Ok(Job { command, nodes, p }));
     }
     Ok(())
 }

@@ -21,6 +21,7 @@ ghost use Rattle.std.specs.Prelude.{
 ghost use Rattle.std.specs.Str.Parse.{digits_value};
 ghost use Rattle.slab_top.specs.Words.{
   AskFor,
+  IsInRange,
   IsNumberFor,
   IsWrongAt,
   allows,
@@ -31,15 +32,19 @@ ghost use Rattle.slab_top.specs.Words.{
 ghost use Rattle.slab_top.specs.Table.{IsRule};
 ghost use Rattle.slab_top.specs.Reading.{HasRead};
 
-use crate::table::{COLOURS, COMMANDS, OPTIONS, Rule, served};
+use crate::table::{COLOURS, COMMANDS, NODES, OPTIONS, Rule, served};
 
 /// What the program is asked to do.
 #[derive(Clone, Copy, Debug, PartialEq, Eq)]
 pub enum Command {
-    /// Print a plan of the least loss.
+    /// Print a plan of the least loss, or the best that a bounded search found.
     Solve,
-    /// Judge an answer from anywhere.
+    /// The same, and with a best plan a log that refutes each cheaper one.
+    Prove,
+    /// Judge the plan of an answer from anywhere.
     Check,
+    /// Judge an answer's plan and the log that is to show that it is a best one.
+    Verify,
 }
 
 impl Command {
@@ -50,8 +55,8 @@ impl Command {
         ensures { result ≡ limit_of self }
     {
         match self {
-            Command::Solve => 4_194_304,
-            Command::Check => 268_435_456,
+            Command::Solve | Command::Prove => 4_194_304,
+            Command::Check | Command::Verify => 268_435_456,
         }
     }
 }
@@ -59,6 +64,8 @@ impl Command {
 /// What an option sets.
 #[derive(Clone, Copy, Debug, PartialEq, Eq)]
 pub enum Setting {
+    /// How many paths a search closes at most.
+    Nodes,
     /// How many colours a slab may carry.
     Colours,
 }
@@ -67,6 +74,8 @@ pub enum Setting {
 #[derive(Clone, Copy, Debug, PartialEq, Eq)]
 pub struct Job {
     pub command: Command,
+    /// How many paths a search closes at most.
+    pub nodes: u64,
     /// How many colours a slab may carry.
     pub p: u8,
 }
@@ -127,6 +136,7 @@ fn number_of(word: &str, rule: Rule) -> Option<u64>
 // The numbers that options give, by what they set.
 #[derive(Clone, Copy)]
 struct Numbers {
+    nodes: Option<u64>,
     colours: Option<u64>,
 }
 
@@ -140,6 +150,7 @@ impl Numbers {
         ensures { result ≡ held_for setting self.now }
     {
         match setting {
+            Setting::Nodes => self.nodes,
             Setting::Colours => self.colours,
         }
     }
@@ -150,6 +161,7 @@ impl Numbers {
             ≡ cond (same_setting other setting) (Some number) (held_for other self.old) }
     {
         match setting {
+            Setting::Nodes => self.nodes = Some(number),
             Setting::Colours => self.colours = Some(number),
         }
     }
@@ -190,7 +202,10 @@ fn read_options(words: &[String], command: Command) -> Result<Numbers, Usage>
     ensures read { IfOk result (HasRead command (texts words.now)) }
     ensures usage { IfErr result (λ usage. IsWrongAt (texts words.now) usage.word) }
 {
-    let mut numbers = Numbers { colours: None };
+    let mut numbers = Numbers {
+        nodes: None,
+        colours: None,
+    };
     let mut place = 1;
     while place < words.len() {
         read_option(words, place, command, &mut numbers)?;
@@ -202,11 +217,11 @@ fn read_options(words: &[String], command: Command) -> Result<Numbers, Usage>
 /// Reads the words after the program's name: a command, and options behind it.
 pub fn read_words(words: &[String]) -> Result<Job, Usage>
     ensures job { IfOk result (AskFor (texts words.now)) }
-    ensures some_colour { IfOk result (λ job. 1 ≤ job.p) }
-    ensures few_colours { IfOk result (λ job. job.p ≤ 8) }
+    ensures in_range { IfOk result IsInRange }
     ensures asked { (job : Job) → AskFor (texts words.now) job → result ≡ Ok job }
     ensures usage { IfErr result (λ usage. IsWrongAt (texts words.now) usage.word) }
-    ensures wrong { (place : ℕ) → IsWrongAt (texts words.now) place → result ≡ Err (record { word = place }) }
+    ensures wrong { (place : ℕ) → IsWrongAt (texts words.now) place
+        → result ≡ Err (record { word = place }) }
 {
     let Some(word) = words.first() else {
         return Err(Usage { word: 0 });
@@ -215,6 +230,7 @@ pub fn read_words(words: &[String]) -> Result<Job, Usage>
         return Err(Usage { word: 0 });
     };
     let numbers = read_options(words, command)?;
+    let nodes = numbers.nodes.unwrap_or(NODES.default);
     let p = numbers.colours.unwrap_or(COLOURS.default) as u8;
-    Ok(Job { command, p })
+    Ok(Job { command, nodes, p })
 }

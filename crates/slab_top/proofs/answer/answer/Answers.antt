@@ -17,16 +17,19 @@ returns-in-Err-BadByte-clause-exact c =
 pub returns-in-Err-Short-clause-exact : goal.returns-in-Err-Short-clause-exact
 returns-in-Err-Short-clause-exact c =
     let error = c.in-Err-Short.field-0-is in
-    told-refused c.args.job c.args.input.now (fault.Short c.in-Err-Short.token) c.refused-in-Err-Short.result
+    told-refused c.args.job c.args.input.now (fault.Short c.in-Err-Short.token)
+    c.refused-in-Err-Short.result
     c.requires.within
-    (c.refused-in-Err-Short.ensures ∙ ap (λ token. Ok (Refused (Short token))) c.in-Err-Short.token-is)
+    (c.refused-in-Err-Short.ensures ∙ ap (λ token. Ok (Refused (Short token)))
+    c.in-Err-Short.token-is)
     (rw error at c.in-Err-Short.ensures.refuses)
     (rw error at c.in-Err-Short.ensures.accepts)
 
 pub returns-in-Err-OutOfRange-clause-exact : goal.returns-in-Err-OutOfRange-clause-exact
 returns-in-Err-OutOfRange-clause-exact c =
     let error = c.in-Err-OutOfRange.field-0-is in
-    told-refused c.args.job c.args.input.now (fault.OutOfRange c.in-Err-OutOfRange.what c.in-Err-OutOfRange.token) c.refused-in-Err-OutOfRange.result
+    told-refused c.args.job c.args.input.now (fault.OutOfRange c.in-Err-OutOfRange.what
+    c.in-Err-OutOfRange.token) c.refused-in-Err-OutOfRange.result
     c.requires.within
     (c.refused-in-Err-OutOfRange.ensures
     ∙ ap₂ (λ what token. Ok (Refused (OutOfRange what token))) c.in-Err-OutOfRange.what-is

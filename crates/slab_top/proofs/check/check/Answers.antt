@@ -7,10 +7,10 @@ pub check_plan-requires : goal.check_plan-requires
 check_plan-requires c =
     let orders = c.args.instance.now.orders in
     let fits = subst (Fits (length orders)) c.in-Optimal.is c.requires in
-    numbers-from orders c.in-Optimal.plan fits.1.1.0.0 fits.1.1.0.1
+    numbers-from orders c.in-Optimal.plan fits.numbers.1.1.0.0 fits.numbers.1.1.0.1
 
 pub check_plan-requires-in-Feasible : goal.check_plan-requires-in-Feasible
 check_plan-requires-in-Feasible c =
     let orders = c.args.instance.now.orders in
     let fits = subst (Fits (length orders)) c.in-Feasible.is c.requires in
-    numbers-from orders c.in-Feasible.plan fits.1.1.0.0 fits.1.1.0.1
+    numbers-from orders c.in-Feasible.plan fits.numbers.1.1.0.0 fits.numbers.1.1.0.1

@@ -9,4 +9,4 @@ pub returns-clause-some : goal.returns-clause-some
 returns-clause-some c =
     subst (λ command. IfSome command (λ it. c.args.word.now ≡ spelling it)) (sym c.served.ensures)
     (found (λ name command. name ≡ spelling command) c.args.word.now
-    (map (λ row. (row.0.now, row.1)) COMMANDS) (refl, (tt, (refl, (tt, (tt, (tt, tt)))))))
+    (map (λ row. (row.0.now, row.1)) COMMANDS) (refl, (refl, (refl, (refl, (tt, (tt, tt)))))))

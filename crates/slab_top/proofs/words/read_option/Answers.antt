@@ -1,16 +1,9 @@
-use Rattle.std.proofs.Common.{◌≡◌, ℕ, ◌+◌, ◌<◌, ◌++◌, ◌∷◌, [], length, cond, false, sym, ap, ap₂, ◌∙◌, refl, subst, arith}
+use Rattle.std.proofs.Common.{◌≡◌, ℕ, ◌+◌, ◌++◌, ◌∷◌, [], cond, false, sym, ap, ap₂, ◌∙◌, refl}
+use Rattle.std.proofs.Common.{subst, arith}
 use Rattle.std.specs.Prelude.{Option, Some, None, is_some}
-use Rattle.slab_top.specs.Words.{texts, name_of, number_for, same_setting}
-use Rattle.slab_top.proofs.Grammar.{
-  text-at,
-  texts-count,
-  name-once,
-  number-push,
-  wrong-name,
-  missing-number,
-  wrong-number,
-  read-on,
-}
+use Rattle.slab_top.specs.Words.{texts, number_for, same_setting}
+use Rattle.slab_top.proofs.Grammar.{text-at, texts-count, name-once, number-push, wrong-name}
+use Rattle.slab_top.proofs.Grammar.{missing-number, wrong-number, read-on}
 use Rattle.slab_top.proofs.words.read_option.Goals as goal
 
 not-some : (number : Option ℕ) → is_some number ≡ false → number ≡ None

@@ -1,9 +1,8 @@
-use Rattle.std.proofs.Common.{◌≡◌, ◌≤◌, Ok, Err, sym, ap, ◌∙◌, subst, arith, refl, rules}
-use Rattle.slab_top.specs.declared.words.Setting.TheVariants.{Colours}
-use Rattle.slab_top.specs.declared.words.Job.{Job}
+use Rattle.std.proofs.Common.{◌≡◌, Ok, Err, ap, ◌∙◌, arith, refl, rules}
+use Rattle.slab_top.specs.declared.words.Setting.TheVariants.{Nodes, Colours}
 use Rattle.slab_top.specs.Words.{texts, or_default, AskFor}
 use Rattle.slab_top.proofs.Grammar.{no-first, other-first, wrong-only, asked-not-wrong, asked-only}
-use Rattle.slab_top.proofs.Grammar.{in-range, unwrapped}
+use Rattle.slab_top.proofs.Grammar.{asked-in-range, unwrapped}
 use Rattle.slab_top.proofs.words.read_words.Goals as goal
 
 pub returns-in_default-clause-usage : goal.returns-in_default-clause-usage
@@ -26,35 +25,30 @@ returns-in_err-numbers-clause-wrong c = λ place wrong.
     let error : c.from_residual.result ≡ Err c.in_err-numbers.field-0.0 = search rules in
     error ∙ ap (λ word. Err (record { word = word })) same
 
--- the number of colours that the options give
-colours : (c : goal.After-unwrap_or-p) → c.unwrap_or-p.result
-    ≡ or_default Colours c.in_ok-numbers.numbers.colours
-colours c = c.unwrap_or-p.ensures ∙ unwrapped Colours c.in_ok-numbers.numbers.colours 2 refl
-
 -- the job is asked for
 asked : (c : goal.After-unwrap_or-p) → AskFor (texts c.args.words.now)
-    (record { command = c.in-Some-command_of.command; p = c.unwrap_or-p.result })
-asked c = record {
-  options = c.in_ok-numbers.ensures.read.options;
-  spell = c.in_ok-numbers.ensures.read.spell;
-  colours = colours c ∙ ap (or_default Colours) (c.in_ok-numbers.ensures.read.held Colours);
-}
-
-range : (c : goal.After-unwrap_or-p) → (1 ≤ c.unwrap_or-p.result) × (c.unwrap_or-p.result ≤ 8)
-range c =
+    (record {
+      command = c.in-Some-command_of.command;
+      nodes = c.unwrap_or-nodes.result;
+      p = c.unwrap_or-p.result;
+    })
+asked c =
     let read = c.in_ok-numbers.ensures.read in
-    subst (λ p. (1 ≤ p) × (p ≤ 8))
-    (sym (colours c ∙ ap (or_default Colours) (read.held Colours)))
-    (in-range Colours c.in-Some-command_of.command read.options read.spell.right)
+    let numbers = c.in_ok-numbers.numbers in
+    record {
+      options = read.options;
+      spell = read.spell;
+      nodes = c.unwrap_or-nodes.ensures ∙ unwrapped Nodes numbers.nodes 20000 refl
+          ∙ ap (or_default Nodes) (read.held Nodes);
+      colours = c.unwrap_or-p.ensures ∙ unwrapped Colours numbers.colours 2 refl
+          ∙ ap (or_default Colours) (read.held Colours);
+    }
 
 pub overflow_cast-p : goal.overflow_cast-p
-overflow_cast-p c = let high = (range c).1 in omega arith
+overflow_cast-p c = let high = (asked-in-range _ _ (asked c)).few_colours in omega arith
 
-pub returns-clause-some_colour : goal.returns-clause-some_colour
-returns-clause-some_colour c = (range c).0
-
-pub returns-clause-few_colours : goal.returns-clause-few_colours
-returns-clause-few_colours c = (range c).1
+pub returns-clause-in_range : goal.returns-clause-in_range
+returns-clause-in_range c = asked-in-range _ _ (asked c)
 
 pub returns-clause-asked : goal.returns-clause-asked
 returns-clause-asked c = λ job other.

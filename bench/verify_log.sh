@@ -80,7 +80,7 @@ least_time() {
     local file=$1
     shift
     for _ in 1 2 3 4 5; do
-        { TIMEFORMAT=%R; time "$@" < "$file" > /dev/null; } 2>&1
+        { TIMEFORMAT=%R; time "$@" < "$file" > /dev/null || true; } 2>&1
     done | sort -n | head -1
 }
 

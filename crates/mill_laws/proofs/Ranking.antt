@@ -6,9 +6,8 @@ use Rattle.std.proofs.lemmas.Bool.Decides.{nat_tests}
 use Rattle.std.specs.List.{AllByRecursion}
 use Rattle.mill_model.specs.Rank.{Placed, is_before, put_in_rank, rank_from}
 use Rattle.mill_model.specs.declared.order.Order.{Order}
-use Rattle.mill_laws.proofs.Lists.{Among, each-at}
-use Rattle.mill_laws.proofs.Different.{either}
-use Rattle.mill_laws.proofs.Merged.{each-weaker}
+use Rattle.list_laws.proofs.Among.{Among, each-at, each-weaker}
+use Rattle.list_laws.proofs.Tests.{either}
 
 -- whether one placed order stands before another
 abbrev pub precedes : Placed → Placed → Bool

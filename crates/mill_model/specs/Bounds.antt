@@ -1,9 +1,9 @@
 -- The least numbers over sets of orders, the ascent and the sweep of prices.
 use Rattle.std.specs.Prelude.{ℕ, zero, suc, Bool, false, not, List, [], ◌∷◌, ◌++◌, map, filter}
-use Rattle.std.specs.Prelude.{length, get_or, set, replicate, ℤ, pos, ◌+ℤ◌, ◌-ℤ◌, Option}
-use Rattle.std.specs.Prelude.{Some, None, flat_map}
+use Rattle.std.specs.Prelude.{length, get_or, set, replicate, ℤ, pos, ◌+ℤ◌, ◌-ℤ◌, Option, Some}
+use Rattle.std.specs.Prelude.{None, flat_map}
 use Rattle.std.specs.List.{list_any}
-use Rattle.mill_model.specs.Sets.{int_sum, int_total, below}
+use Rattle.list_laws.specs.Sets.{int_sum, int_total, below}
 use Rattle.mill_model.specs.Slab.{Mill}
 use Rattle.mill_model.specs.Plan.{slab}
 use Rattle.mill_model.specs.Tree.{later_orders, next_new}

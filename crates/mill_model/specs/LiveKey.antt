@@ -2,7 +2,7 @@
 use Rattle.std.specs.Prelude.{ℕ, Bool, true, false, cond, not, ◌&&◌, List, [], ◌∷◌, ◌++◌, map}
 use Rattle.std.specs.Prelude.{filter, length, eqb}
 use Rattle.std.specs.List.{list_any}
-use Rattle.mill_model.specs.Sets.{same_times, holds, total, below}
+use Rattle.list_laws.specs.Sets.{same_times, holds, total, below}
 use Rattle.mill_model.specs.Slab.{Mill, load, colours, legal}
 use Rattle.mill_model.specs.Plan.{slab}
 use Rattle.mill_model.specs.Tree.{later_orders, next_new}

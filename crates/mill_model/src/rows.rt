@@ -1,24 +1,13 @@
 //! The definitions at small instances, computed: a wrong number is refused by the prover.
 ghost use Rattle.std.specs.Prelude.{◌≡◌, ◌∷◌, [], true, false, map, Some, None, eqb};
 ghost use Rattle.std.specs.List.{list_all};
-ghost use Rattle.mill_model.specs.Sets.{below, chosen, different, same_times, sets, total};
+ghost use Rattle.list_laws.specs.Sets.{below, chosen, different, same_times, sets, total};
 ghost use Rattle.mill_model.specs.Slab.{colours, legal, load};
 ghost use Rattle.mill_model.specs.Instance.{largest, loss_charge, size_for};
 ghost use Rattle.mill_model.specs.Plan.{legal_plan, loss};
-ghost use Rattle.mill_model.specs.Small.{every_plan, four, loses_at_least, six_orders};
-ghost use Rattle.mill_model.specs.Small.{three_mill, three_orders, twenty_sizes, two_orders};
+ghost use Rattle.mill_model.specs.Small.{every_plan, four, loses_at_least, six_orders, three_mill};
+ghost use Rattle.mill_model.specs.Small.{three_orders, twenty_sizes, two_orders};
 ghost use Rattle.mill_model.specs.Tree.{canonical};
-
-/// Sets are marks, and multisets are counted.
-pub fn sets_and_sums()
-    ensures chosen { chosen (true ∷ false ∷ true ∷ []) (below 3) ≡ 0 ∷ 2 ∷ [] }
-    ensures sets { sets 2 ≡ (false ∷ false ∷ []) ∷ (false ∷ true ∷ []) ∷ (true ∷ false ∷ [])
-        ∷ (true ∷ true ∷ []) ∷ [] }
-    ensures different { different (3 ∷ 1 ∷ 3 ∷ []) ≡ 2 }
-    ensures total { total 4 (λ n. n) ≡ 6 }
-    ensures one_multiset { same_times eqb (1 ∷ 2 ∷ 1 ∷ []) (2 ∷ 1 ∷ 1 ∷ []) ≡ true }
-    ensures another { same_times eqb (1 ∷ 2 ∷ []) (1 ∷ 1 ∷ 2 ∷ []) ≡ false }
-{}
 
 /// The orders (1, 1), (1, 2) and (2, 3) weigh 4 together and have three colours; the first and
 /// the last fit one slab of two colours.

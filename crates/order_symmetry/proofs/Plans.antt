@@ -6,14 +6,13 @@ use Rattle.std.proofs.Common.{false-eqb, lt-ltb, get_or-set_same, get_or-set_oth
 use Rattle.std.proofs.lemmas.List.{length-map, length-set, length-replicate, get_or-map}
 use Rattle.std.proofs.lemmas.List.{get_or-replicate, take_more}
 use Rattle.std.specs.List.{AllByRecursion, list_all}
-use Rattle.mill_model.specs.Sets.{each_below}
+use Rattle.list_laws.specs.Sets.{each_below}
 use Rattle.mill_model.specs.Slab.{legal}
 use Rattle.mill_model.specs.Plan.{slab, numbers_each, loss}
 use Rattle.mill_model.specs.Rank.{Placed, rank, ranked_orders, plan_in_rank}
 use Rattle.mill_model.specs.declared.order.Order.{Order}
-use Rattle.mill_laws.proofs.Lists.{and-left, and-right, last-or-below}
-use Rattle.mill_laws.proofs.Different.{either}
-use Rattle.mill_laws.proofs.Settle.{drop-step}
+use Rattle.list_laws.proofs.Tests.{and-left, and-right, last-or-below, either}
+use Rattle.list_laws.proofs.Lists.{drop-step}
 use Rattle.mill_laws.proofs.Ranking.{precedes, precedes-self, Rising, rank-rising}
 use Rattle.mill_laws.proofs.Ranked.{get-below, rank-length, ranked-loss, same-legal, same-length}
 use Rattle.order_symmetry.specs.Numbered.{placed_of}

@@ -5,11 +5,11 @@ use Rattle.std.proofs.lemmas.List.Sorted.{IsPermutation-map}
 use Rattle.std.proofs.lemmas.List.{get_or-map, length-map, take_more, length-take, map-append}
 use Rattle.std.specs.List.{AllByRecursion}
 use Rattle.std.specs.List.Sorted.{IsPermutation, IsSortedBy}
-use Rattle.mill_model.specs.Sets.{times, SameTimes}
+use Rattle.list_laws.specs.Sets.{times, SameTimes}
 use Rattle.mill_model.specs.Rank.{Placed, is_before, put_in_rank, rank_from, rank}
 use Rattle.mill_model.specs.declared.order.Order.{Order}
-use Rattle.mill_laws.proofs.Different.{either}
-use Rattle.mill_laws.proofs.Merged.{each-weaker}
+use Rattle.list_laws.proofs.Tests.{either}
+use Rattle.list_laws.proofs.Among.{each-weaker}
 use Rattle.mill_laws.proofs.Ranking.{precedes, Rising, rank-rising, all-put}
 use Rattle.order_symmetry.specs.Numbered.{placed_of, stands_before}
 use Rattle.order_symmetry.specs.declared.numbered.Numbered.{Numbered}

@@ -8,9 +8,11 @@ use Rattle.std.proofs.lemmas.List.Elements.{recursion_from_All}
 use Rattle.std.specs.Cmp.{IsStrictWeakOrder}
 use Rattle.std.specs.List.{AllByRecursion, sum_by}
 use Rattle.std.specs.List.Sorted.{IsPermutation, IsSortedBy}
-use Rattle.mill_model.specs.Sets.{times, SameTimes}
+use Rattle.list_laws.specs.Sets.{times, SameTimes}
 use Rattle.mill_model.specs.Rank.{Placed, same_order}
-use Rattle.mill_laws.proofs.Lists.{Among, each-at, and-left, and-right, times-pos, times-among}
+use Rattle.list_laws.proofs.Among.{Among, each-at}
+use Rattle.list_laws.proofs.Tests.{and-left, and-right}
+use Rattle.list_laws.proofs.Times.{times-pos, times-among}
 use Rattle.mill_laws.proofs.Settle.{same_order-eq}
 use Rattle.mill_laws.proofs.Ranking.{precedes}
 

@@ -1,36 +1,33 @@
 -- The greatest gain of the sets that may join a slab is its least slack with the other sign.
-use Rattle.std.proofs.Common.{ℕ, zero, suc, ◌+◌, ◌*◌, ◌<◌, ◌≤◌, ◌≡◌, ◌⊎◌, Bool, true, false}
-use Rattle.std.proofs.Common.{cond}
+use Rattle.std.proofs.Common.{ℕ, zero, suc, ◌+◌, ◌*◌, ◌<◌, ◌≤◌, ◌≡◌, ◌⊎◌, Bool, true, false, cond}
 use Rattle.std.proofs.Common.{not, ◌&&◌, ◌||◌, List, [], ◌∷◌, ◌++◌, map, filter, length, get_or}
-use Rattle.std.proofs.Common.{set, ℤ}
-use Rattle.std.proofs.Common.{pos, ◌+ℤ◌, ◌-ℤ◌, ◌≤ℤ◌, neg_ℤ, Option, Some, None, eqb, leb, ltb}
-use Rattle.std.proofs.Common.{leb-true}
-use Rattle.std.proofs.Common.{le-leb, leb-false, ltb-false, refl, sym, ap, subst, ◌∙◌, arith, inl}
-use Rattle.std.proofs.Common.{inr}
-use Rattle.std.proofs.Common.{eq-eqb, eqb-true, ne_eqb, append-nil, length-set}
+use Rattle.std.proofs.Common.{set, ℤ, pos, ◌+ℤ◌, ◌-ℤ◌, ◌≤ℤ◌, neg_ℤ, Option, Some, None, eqb, leb}
+use Rattle.std.proofs.Common.{ltb, leb-true, le-leb, leb-false, ltb-false, refl, sym, ap, subst}
+use Rattle.std.proofs.Common.{◌∙◌, arith, inl, inr, eq-eqb, eqb-true, ne_eqb, append-nil}
+use Rattle.std.proofs.Common.{length-set}
 use Rattle.std.proofs.lemmas.Int.{ints}
 use Rattle.std.proofs.lemmas.List.{map-append}
 use Rattle.std.specs.List.{list_any}
-use Rattle.mill_model.specs.Sets.{holds, different, chosen, sets, int_sum}
+use Rattle.list_laws.specs.Sets.{holds, different, chosen, sets, int_sum}
 use Rattle.mill_model.specs.Slab.{Mill, load, colours, legal}
 use Rattle.mill_model.specs.Prices.{slack, legal_sets, least, least_slack}
-use Rattle.mill_model.specs.Bounds.{in_set, least_of, slacks, least_new}
-use Rattle.mill_model.specs.Bounds.{least_on_with, least_on_without}
+use Rattle.mill_model.specs.Bounds.{in_set, least_of, slacks, least_new, least_on_with}
+use Rattle.mill_model.specs.Bounds.{least_on_without}
 use Rattle.mill_model.specs.declared.order.Order.{Order}
-use Rattle.mill_laws.proofs.Different.{load-append}
-use Rattle.mill_laws.proofs.Least.{least-in}
-use Rattle.mill_laws.proofs.Lists.{and-left, and-right, Among, Among-map, Among-filter, among-sets}
-use Rattle.mill_laws.proofs.Lists.{least-first, least-among, Among-unmap, Among-unfilter}
-use Rattle.mill_laws.proofs.Lists.{Among-unappend}
-use Rattle.mill_laws.proofs.Slacks.{nothing, nothing-chosen, nothing-length, empty-slack}
-use Rattle.mill_model.proofs.Different.{either, or-cases, or-left, or-right, different-mono}
-use Rattle.mill_model.proofs.Different.{holds-append, Within, Within-left, Within-right}
+use Rattle.mill_model.proofs.Slabs.{load-append}
+use Rattle.mill_laws.proofs.Least.{least-in, least-first, least-among}
+use Rattle.list_laws.proofs.Tests.{and-left, and-right, either, or-cases, or-left, or-right}
+use Rattle.list_laws.proofs.Among.{Among, Among-map, Among-filter, among-sets, Among-unmap}
+use Rattle.list_laws.proofs.Among.{Among-unfilter, Among-unappend}
+use Rattle.mill_laws.proofs.Slacks.{empty-slack}
+use Rattle.list_laws.proofs.Lists.{nothing, nothing-chosen, nothing-length}
+use Rattle.list_laws.proofs.Different.{different-mono, holds-append, Within, Within-left}
+use Rattle.list_laws.proofs.Different.{Within-right}
 use Rattle.set_minima.specs.Packs.{nobody, colours_in, IsTop, with_price}
 use Rattle.set_minima.specs.Joins.{gain, Joins, IsSlab, opposite, with_colour, may_join, AreOrders}
 use Rattle.set_minima.specs.Joins.{all_places, all_but}
-use Rattle.set_minima.proofs.Places.{in-set-same, in-set-below, load-place}
-use Rattle.set_minima.proofs.Places.{sum-place, colours-place, marked, unmarked}
-use Rattle.set_minima.proofs.Places.{place-colour}
+use Rattle.set_minima.proofs.Places.{in-set-same, in-set-below, load-place, sum-place}
+use Rattle.set_minima.proofs.Places.{colours-place, marked, unmarked, place-colour}
 use Rattle.set_minima.proofs.Tops.{clash, none-some, top-shift}
 
 and-both : (a b : Bool) → a ≡ true → b ≡ true → (a && b) ≡ true

@@ -1,18 +1,17 @@
 -- What a plan loses by a table of charges, and within which limits.
 use Rattle.std.proofs.Common.{◌≡◌, ℕ, zero, suc, ◌+◌, ◌-◌, ◌*◌, ◌<◌, ◌≤◌, Bool, true, false, cond}
-use Rattle.std.proofs.Common.{ltb}
-use Rattle.std.proofs.Common.{List, [], ◌∷◌, length, max, leb, eqb, refl, sym, ap, ◌∙◌, subst}
-use Rattle.std.proofs.Common.{arith}
-use Rattle.std.proofs.Common.{eq-eqb, eqb-true, ltb-true, get_or}
+use Rattle.std.proofs.Common.{ltb, List, [], ◌∷◌, length, max, leb, eqb, refl, sym, ap, ◌∙◌, subst}
+use Rattle.std.proofs.Common.{arith, eq-eqb, eqb-true, ltb-true, get_or}
 use Rattle.std.specs.Prelude.{◌↔◌, All, Option, Some, None, IfSome, slice_index}
 use Rattle.std.specs.List.{list_all}
-use Rattle.mill_model.specs.Sets.{total}
+use Rattle.list_laws.specs.Sets.{total}
 use Rattle.mill_model.specs.Slab.{load}
 use Rattle.mill_model.specs.Instance.{Problem, IsInstance, IsSize, largest, mill_of, loss_charge}
 use Rattle.mill_model.specs.Instance.{excess, size_for}
 use Rattle.mill_model.specs.Plan.{slab, loss, numbers_each}
 use Rattle.mill_model.specs.declared.order.Order.{Order}
-use Rattle.mill_laws.proofs.Lists.{total-cong, and-left, and-right}
+use Rattle.list_laws.proofs.Sums.{total-cong}
+use Rattle.list_laws.proofs.Tests.{and-left, and-right}
 use Rattle.plan_check.specs.Verdicts.{IsLegal}
 use Rattle.answer_text.specs.declared.answer.Answer.TheVariants.{Optimal, Feasible}
 use Rattle.slab_top.specs.Best.{IsLegalFor, IsTidyPlan, loss_of}

@@ -9,7 +9,7 @@ use Rattle.mill_model.specs.Slab.{Mill, load, colours, legal}
 use Rattle.mill_model.specs.Instance.{Problem, largest, mill_of}
 use Rattle.mill_model.specs.Plan.{slab, IsLegalPlan}
 use Rattle.mill_model.specs.declared.order.Order.{Order}
-use Rattle.mill_laws.proofs.Lists.{each_below-at}
+use Rattle.list_laws.proofs.Sums.{each_below-at}
 use Rattle.plan_check.specs.Verdicts.{IsLowestWrong, IsHeavy, IsColourful}
 use Rattle.answer_text.specs.declared.answer.Answer.{Answer}
 use Rattle.answer_text.specs.declared.answer.Answer.TheVariants.{Optimal, Feasible, Infeasible}

@@ -1,8 +1,7 @@
 -- What is said of an answer is one thing.
 use Rattle.std.proofs.Common.{◌≡◌, ◌≢◌, ℕ, ◌+◌, ◌<◌, ◌≤◌, Bool, true, false, cond, eqb, List, []}
-use Rattle.std.proofs.Common.{length}
-use Rattle.std.proofs.Common.{refl, sym, ap, ap₂, ◌∙◌, ◌⊎◌, subst, arith, inl, inr, eqb-true}
-use Rattle.std.proofs.Common.{eq-eqb}
+use Rattle.std.proofs.Common.{length, refl, sym, ap, ap₂, ◌∙◌, ◌⊎◌, subst, arith, inl, inr}
+use Rattle.std.proofs.Common.{eqb-true, eq-eqb}
 use Rattle.std.specs.Prelude.{Option, Some, None}
 use Rattle.std.proofs.lemmas.Bool.{cases_order}
 use Rattle.mill_model.specs.Slab.{Mill, load, colours, legal}
@@ -10,7 +9,7 @@ use Rattle.mill_model.specs.Instance.{Problem, mill_of, loss_charge}
 use Rattle.mill_model.specs.Plan.{slab, IsLegalPlan}
 use Rattle.mill_model.specs.declared.order.Order.{Order}
 use Rattle.mill_model.specs.declared.closing.Entry.{Entry}
-use Rattle.mill_laws.proofs.Lists.{each_below-at}
+use Rattle.list_laws.proofs.Sums.{each_below-at}
 use Rattle.plan_check.specs.Verdicts.{IsLegal, IsLowestWrong, IsHeavy, IsColourful}
 use Rattle.plan_check.specs.declared.verdict.Verdict.{Verdict}
 use Rattle.plan_check.specs.declared.verdict.Verdict.TheVariants as verdict
@@ -23,21 +22,19 @@ use Rattle.answer_text.specs.declared.answer.Answer.TheVariants.{Optimal, Feasib
 use Rattle.slab_top.specs.declared.judgement.Judgement.{Judgement}
 use Rattle.slab_top.specs.declared.judgement.Judgement.TheVariants.{Legal, Confirmed, Heavy}
 use Rattle.slab_top.specs.declared.judgement.Judgement.TheVariants.{Colourful, LossDiffers}
-use Rattle.slab_top.specs.declared.judgement.Judgement.TheVariants.{OrderDiffers, Verified}
-use Rattle.slab_top.specs.declared.judgement.Judgement.TheVariants.{Missing, Stray, Unsound}
+use Rattle.slab_top.specs.declared.judgement.Judgement.TheVariants.{OrderDiffers, Verified, Missing}
+use Rattle.slab_top.specs.declared.judgement.Judgement.TheVariants.{Stray, Unsound}
 use Rattle.slab_top.specs.Judgement.{IsSaidOfPlan, IsSaidOfOrder, IsSaidOf}
 use Rattle.slab_top.specs.Heavy.{IsFirstHeavyIfAny}
 use Rattle.slab_top.specs.Verify.{task_of_problem, IsSaidOfProof, IsVerdictOn, ProvesNothing}
 use Rattle.slab_top.specs.Answer.{IsJudgedBy}
 use Rattle.slab_top.specs.Front.{IsSaidFor}
 use Rattle.slab_top.specs.declared.outcome.Refusal.{Refusal}
-use Rattle.slab_top.specs.declared.outcome.Refusal.TheVariants.{TooLong, BadByte, Short}
-use Rattle.slab_top.specs.declared.outcome.Refusal.TheVariants.{OutOfRange, Rest, AnswerLine}
-use Rattle.slab_top.specs.declared.outcome.Refusal.TheVariants.{AnswerNotRising, AnswerCount}
-use Rattle.slab_top.specs.declared.outcome.Refusal.TheVariants.{AnswerKind}
+use Rattle.slab_top.specs.declared.outcome.Refusal.TheVariants.{TooLong, BadByte, Short, OutOfRange}
+use Rattle.slab_top.specs.declared.outcome.Refusal.TheVariants.{Rest, AnswerLine, AnswerNotRising}
+use Rattle.slab_top.specs.declared.outcome.Refusal.TheVariants.{AnswerCount, AnswerKind}
 use Rattle.slab_top.specs.declared.outcome.Outcome.{Outcome}
-use Rattle.slab_top.specs.declared.outcome.Outcome.TheVariants.{WrongWords, Refused, Solved}
-use Rattle.slab_top.specs.declared.outcome.Outcome.TheVariants.{Judged}
+use Rattle.slab_top.specs.declared.outcome.Outcome.TheVariants.{WrongWords, Refused, Solved, Judged}
 use Rattle.slab_top.specs.declared.words.Command.{Command}
 use Rattle.slab_top.specs.declared.words.Command.TheVariants.{Solve, Prove, Check, Verify}
 use Rattle.slab_top.proofs.Once.{any-once}

@@ -1,7 +1,7 @@
 -- What a run ends with: its status, and what it has read.
 use Rattle.std.specs.Prelude.{◌≢◌, ℕ, ◌≤◌, List, [], ◌∷◌, length, IsTrue}
 use Rattle.mill_model.specs.Instance.{Problem}
-use Rattle.mill_model.specs.Sets.{holds}
+use Rattle.list_laws.specs.Sets.{holds}
 use Rattle.mill_model.specs.Size.{enough}
 use Rattle.slab_top.specs.declared.words.Job.{Job}
 use Rattle.slab_top.specs.Answer.{IsInstanceInput}

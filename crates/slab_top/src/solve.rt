@@ -1,6 +1,6 @@
 ghost use Rattle.std.specs.Prelude.{◌≡◌, ◌<◌, ◌≤◌, All, length, IfOk};
 ghost use Rattle.mill_model.specs.Instance.{IsInstance, largest};
-ghost use Rattle.mill_model.specs.Sets.{below};
+ghost use Rattle.list_laws.specs.Sets.{below};
 ghost use Rattle.loss_table.specs.Charges.{AreCharges};
 ghost use Rattle.slab_top.specs.Best.{loss_alone};
 ghost use Rattle.slab_top.specs.Heavy.{IsFirstHeavyIfAny, NoneHeavy};

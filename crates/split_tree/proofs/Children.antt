@@ -1,19 +1,17 @@
 -- The children of a node, one number after another.
-use Rattle.std.proofs.Common.{ℕ, suc, ◌+◌, ◌<◌, ◌≤◌, ◌≡◌, Bool, true, false, cond, ◌&&◌, ◌||◌}
-use Rattle.std.proofs.Common.{List, [], ◌∷◌, ◌++◌, map, filter, length, leb, Some, refl, sym, ap}
-use Rattle.std.proofs.Common.{ap₂}
+use Rattle.std.proofs.Common.{ℕ, suc, ◌+◌, ◌<◌, ◌≤◌, ◌≡◌, Bool, true, false, cond, ◌&&◌, ◌||◌, List}
+use Rattle.std.proofs.Common.{[], ◌∷◌, ◌++◌, map, filter, length, leb, Some, refl, sym, ap, ap₂}
 use Rattle.std.proofs.Common.{◌∙◌, arith, inl, inr, le-leb, append-nil}
 use Rattle.std.proofs.lemmas.Bool.Decides.{nat_tests}
-use Rattle.std.proofs.lemmas.List.{length-append, length-map}
+use Rattle.std.proofs.lemmas.List.{length-append, length-map, map-append}
 use Rattle.std.proofs.lemmas.List.Elements.{All-from_recursion}
 use Rattle.std.specs.List.{All, AllByRecursion, slice_get}
-use Rattle.mill_model.specs.Sets.{below}
+use Rattle.list_laws.specs.Sets.{below}
 use Rattle.mill_model.specs.Slab.{legal}
 use Rattle.mill_model.specs.Rank.{starts_class_in}
 use Rattle.mill_model.specs.Tree.{next_new, last_number, may_go_on, children, in_tree}
 use Rattle.mill_model.specs.declared.order.Order.{Order}
-use Rattle.mill_laws.proofs.Lists.{and-right, map-append}
-use Rattle.mill_laws.proofs.Different.{either}
+use Rattle.list_laws.proofs.Tests.{and-right, either}
 use Rattle.mill_laws.proofs.Paths.{goes-append}
 use Rattle.order_symmetry.specs.Ranked.{orders_of}
 use Rattle.split_tree.specs.Node.{Node, IsNode, group_of, least_number}

@@ -112,8 +112,8 @@ impl<'a> NodeState<'a> {
 
     /// What all groups together are charged.
     pub fn groups_loss(&self, charges: &Charges) -> u64
-        requires { length charges.now ≡ self.now.ranked.mill.largest + 1 }
-        ensures { result ≡ groups_loss (λ load. slice_index charges.now load) self.now }
+        requires { Reaches charges.now self.now.ranked.mill }
+        ensures { result ≡ groups_loss (charge_of charges.now) self.now }
     {
         let mut loss = 0;
         for group in &self.groups {

@@ -25,8 +25,7 @@ struct Setting {
     ranked: Ranked,
     charges: Charges,
     ghost ranks: { IsRankOf instance ranked },
-    ghost reach: { length charges ≡ largest instance.sizes + 1 },
-    ghost free: { slice_index charges 0 ≡ 0 },
+    ghost reach: { Reaches charges (mill_of instance) },
 }
 
 impl Setting {
@@ -56,8 +55,8 @@ impl Setting {
 
     // The plan of the leaf that lies under the last child of each path above it.
     fn each_alone(&self, alloc: Global) -> Result<Option<Start>, OutOfMemory>
-        ensures { IfOk result (λ start. IfSome start (IsPlanWithLoss
-            (task_for self.now.instance self.now.charges) self.now.instance.orders)) }
+        ensures { IfOk result (λ start. IfSome start (IsStartOf self.now.instance
+            (charge_of self.now.charges))) }
     {
         let mut path = Path::root(alloc);
         for _ in 0..self.ranked.len() {

@@ -1,4 +1,4 @@
-use Rattle.tree_search.specs.Search.{HasSearched, task_for}
+use Rattle.tree_search.specs.Search.{HasSearched}
 use Rattle.tree_search.proofs.search.close_paths.Given as goal
 
 abbrev pub invariant-loop-closed : goal.invariant-loop-closed

@@ -6,9 +6,8 @@ use Rattle.std.proofs.Common.{◌∙◌, subst, arith, inl, inr}
 use Rattle.std.proofs.lemmas.Bool.{cases_lt}
 use Rattle.list_laws.specs.Sets.{holds}
 use Rattle.mill_model.specs.declared.order.Order.{Order}
-use Rattle.list_laws.proofs.Tests.{and-left, and-right, either, or-cases, or-left, or-right}
+use Rattle.list_laws.proofs.Tests.{and-left, and-right, either, or-cases, or-left, or-right, clash}
 use Rattle.set_minima.specs.Packs.{nobody, colour_at, IsBest, IsTable, IsNext}
-use Rattle.set_minima.proofs.Tops.{clash}
 use Rattle.set_minima.proofs.OneOrder.{best-added, best-heavy, best-allowed}
 use Rattle.log_checker.specs.Tables.{cell, item_at, AreItems, placed, owned, own_placed, let_in}
 use Rattle.log_checker.specs.Tables.{IsStretch, IsRun, no_place}

@@ -49,10 +49,6 @@ legal-found mill charge orders plan lost each all = record {
   loses = sym all.sum;
 }
 
--- no test is both
-clash : (b : Bool) → b ≡ true → b ≡ false → ⊥
-clash b is isn't = absurd (cc)
-
 -- the one lowest slab that isn't legal
 same-lowest : (mill : Mill) (orders : List Order) (plan : List ℕ) (s t : ℕ) →
     IsLowestWrong mill orders plan s → IsLowestWrong mill orders plan t → s ≡ t

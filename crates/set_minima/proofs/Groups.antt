@@ -14,9 +14,8 @@ use Rattle.mill_model.specs.declared.order.Order.{Order}
 use Rattle.mill_model.proofs.Slabs.{load-append, legal-less, joined-colours, colours-swap}
 use Rattle.mill_model.proofs.Slabs.{among-load, among-colour, colours_of}
 use Rattle.list_laws.proofs.Among.{Among, any-among, Among-unfilter, chosen-among, map-among}
-use Rattle.list_laws.proofs.Tests.{or-cases, or-left, or-right}
+use Rattle.list_laws.proofs.Tests.{or-cases, or-left, or-right, clash}
 use Rattle.list_laws.proofs.Different.{different-mono, holds-append}
-use Rattle.set_minima.proofs.Tops.{clash}
 
 -- Groups that the later orders see alike have the same least slack.
 module _ (mill : Mill) (charge : ℕ → ℕ) (rest g r : List Order)

@@ -16,7 +16,7 @@ use Rattle.mill_model.specs.Bounds.{least_on_without}
 use Rattle.mill_model.specs.declared.order.Order.{Order}
 use Rattle.mill_model.proofs.Slabs.{load-append}
 use Rattle.mill_laws.proofs.Least.{least-in, least-first, least-among}
-use Rattle.list_laws.proofs.Tests.{and-left, and-right, either, or-cases, or-left, or-right}
+use Rattle.list_laws.proofs.Tests.{and-left, and-right, either, or-cases, or-left, or-right, clash}
 use Rattle.list_laws.proofs.Among.{Among, Among-map, Among-filter, among-sets, Among-unmap}
 use Rattle.list_laws.proofs.Among.{Among-unfilter, Among-unappend}
 use Rattle.mill_laws.proofs.Slacks.{empty-slack}
@@ -28,7 +28,7 @@ use Rattle.set_minima.specs.Joins.{gain, Joins, IsSlab, opposite, with_colour, m
 use Rattle.set_minima.specs.Joins.{all_places, all_but}
 use Rattle.set_minima.proofs.Places.{in-set-same, in-set-below, load-place, sum-place}
 use Rattle.set_minima.proofs.Places.{colours-place, marked, unmarked, place-colour}
-use Rattle.set_minima.proofs.Tops.{clash, none-some, top-shift}
+use Rattle.set_minima.proofs.Tops.{none-some, top-shift}
 
 and-both : (a b : Bool) → a ≡ true → b ≡ true → (a && b) ≡ true
 and-both true b h k = k

@@ -10,11 +10,11 @@ use Rattle.mill_model.specs.Bounds.{in_set}
 use Rattle.mill_model.specs.declared.order.Order.{Order}
 use Rattle.mill_laws.proofs.Slacks.{nothing-in}
 use Rattle.list_laws.proofs.Lists.{nothing, nothing-chosen, nothing-length}
-use Rattle.list_laws.proofs.Tests.{either, or-cases, or-right}
+use Rattle.list_laws.proofs.Tests.{either, or-cases, or-right, clash}
 use Rattle.list_laws.proofs.Different.{different-mono, holds-append, Within-left, Within-right}
 use Rattle.set_minima.specs.Packs.{colour_at, colours_in, Packs, IsBest, IsNextColour, better}
 use Rattle.set_minima.proofs.Places.{in-set-below, colour-place, place-colour}
-use Rattle.set_minima.proofs.Tops.{clash, top-same, top-union}
+use Rattle.set_minima.proofs.Tops.{top-same, top-union}
 use Rattle.set_minima.proofs.OneOrder.{few-less}
 
 module _ (rest : List Order) (A A' : ℕ → Bool) (own : List ℕ) (c : ℕ)

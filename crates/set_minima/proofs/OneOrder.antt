@@ -6,13 +6,13 @@ use Rattle.list_laws.specs.Sets.{chosen, int_sum, holds, different}
 use Rattle.mill_model.specs.Slab.{load}
 use Rattle.mill_model.specs.Bounds.{in_set}
 use Rattle.mill_model.specs.declared.order.Order.{Order}
-use Rattle.list_laws.proofs.Tests.{either, or-cases, or-left, or-right}
+use Rattle.list_laws.proofs.Tests.{either, or-cases, or-left, or-right, clash}
 use Rattle.list_laws.proofs.Different.{different-mono, holds-append, Within}
 use Rattle.set_minima.specs.Packs.{nobody, colour_at, colours_in, Packs, IsBest, IsNext, better}
 use Rattle.set_minima.specs.Packs.{with_price}
 use Rattle.set_minima.proofs.Places.{in-set-same, in-set-other, in-set-below, load-place, sum-place}
 use Rattle.set_minima.proofs.Places.{colours-place, marked, unmarked}
-use Rattle.set_minima.proofs.Tops.{clash, top-same, top-union, top-shift}
+use Rattle.set_minima.proofs.Tops.{top-same, top-union, top-shift}
 
 module _ (rest : List Order) where
   -- sets of fewer colours

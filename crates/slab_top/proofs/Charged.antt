@@ -8,11 +8,10 @@ use Rattle.list_laws.specs.Sets.{total}
 use Rattle.mill_model.specs.Slab.{load}
 use Rattle.mill_model.specs.Instance.{Problem, IsInstance, IsSize, largest, mill_of, loss_charge}
 use Rattle.mill_model.specs.Instance.{excess, size_for}
-use Rattle.mill_model.specs.Plan.{slab, loss, numbers_each}
+use Rattle.mill_model.specs.Plan.{slab, loss, numbers_each, IsPlanWithLoss}
 use Rattle.mill_model.specs.declared.order.Order.{Order}
 use Rattle.list_laws.proofs.Sums.{total-cong}
 use Rattle.list_laws.proofs.Tests.{and-left, and-right}
-use Rattle.plan_check.specs.Verdicts.{IsLegal}
 use Rattle.answer_text.specs.declared.answer.Answer.TheVariants.{Optimal, Feasible}
 use Rattle.slab_top.specs.Best.{IsLegalFor, IsTidyPlan, loss_of}
 use Rattle.refute_log.specs.Logged.{Logged}

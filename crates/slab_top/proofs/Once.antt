@@ -18,7 +18,7 @@ use Rattle.slab_top.specs.declared.judgement.Judgement.TheVariants.{Legal, Confi
 use Rattle.slab_top.specs.declared.judgement.Judgement.TheVariants.{Colourful, LossDiffers}
 use Rattle.slab_top.specs.declared.judgement.Judgement.TheVariants.{OrderDiffers}
 use Rattle.slab_top.specs.Best.{IsTidyPlan, IsBest}
-use Rattle.slab_top.specs.Heavy.{NoneHeavy, IsFirstHeavy, IsFirstHeavyIfAny}
+use Rattle.mill_model.specs.Heavy.{NoneHeavy, IsFirstHeavy, IsFirstHeavyIfAny}
 use Rattle.slab_top.specs.Judgement.{IsSaidOfPlan, IsSaidOfOrder, IsSaidOf}
 use Rattle.slab_top.specs.Answer.{IsSolution, AgreeOnAnswers}
 

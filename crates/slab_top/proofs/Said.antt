@@ -6,11 +6,11 @@ use Rattle.std.specs.Prelude.{Option, Some, None}
 use Rattle.std.proofs.lemmas.Bool.{cases_order}
 use Rattle.mill_model.specs.Slab.{Mill, load, colours, legal}
 use Rattle.mill_model.specs.Instance.{Problem, mill_of, loss_charge}
-use Rattle.mill_model.specs.Plan.{slab, IsLegalPlan}
+use Rattle.mill_model.specs.Plan.{slab, IsLegalPlan, IsPlanWithLoss}
 use Rattle.mill_model.specs.declared.order.Order.{Order}
 use Rattle.mill_model.specs.declared.closing.Entry.{Entry}
 use Rattle.list_laws.proofs.Sums.{each_below-at}
-use Rattle.plan_check.specs.Verdicts.{IsLegal, IsLowestWrong, IsHeavy, IsColourful}
+use Rattle.plan_check.specs.Verdicts.{IsLowestWrong, IsHeavy, IsColourful}
 use Rattle.plan_check.specs.declared.verdict.Verdict.{Verdict}
 use Rattle.plan_check.specs.declared.verdict.Verdict.TheVariants as verdict
 use Rattle.log_checker.specs.Verdict.{IsVerdict}
@@ -25,7 +25,7 @@ use Rattle.slab_top.specs.declared.judgement.Judgement.TheVariants.{Colourful, L
 use Rattle.slab_top.specs.declared.judgement.Judgement.TheVariants.{OrderDiffers, Verified, Missing}
 use Rattle.slab_top.specs.declared.judgement.Judgement.TheVariants.{Stray, Unsound}
 use Rattle.slab_top.specs.Judgement.{IsSaidOfPlan, IsSaidOfOrder, IsSaidOf}
-use Rattle.slab_top.specs.Heavy.{IsFirstHeavyIfAny}
+use Rattle.mill_model.specs.Heavy.{IsFirstHeavyIfAny}
 use Rattle.slab_top.specs.Verify.{task_of_problem, IsSaidOfProof, IsVerdictOn, ProvesNothing}
 use Rattle.slab_top.specs.Answer.{IsJudgedBy}
 use Rattle.slab_top.specs.Front.{IsSaidFor}

@@ -11,7 +11,8 @@ use Rattle.mill_model.specs.declared.plan.Start.{Start}
 use Rattle.mill_laws.specs.PlanLaws.{EachFits}
 use Rattle.mill_laws.proofs.PlanLaws.{canonical-form-is-legal, canonical-form-is-its-own}
 use Rattle.mill_laws.proofs.PlanLaws.{canonical-form-loses-the-same, each-alone-is-legal}
-use Rattle.tree_search.specs.Search.{IsPlanWithLoss, task_for}
+use Rattle.mill_model.specs.Best.{IsStartOf}
+use Rattle.mill_model.specs.Log.{task_of}
 use Rattle.line_text.specs.Lines.{text_lines}
 use Rattle.refute_log.specs.Logged.{Logged, IsLog}
 use Rattle.answer_text.specs.Text.{Fits, refutation_of, answer_text, IsAnswerText}
@@ -19,7 +20,7 @@ use Rattle.answer_text.specs.declared.answer.Answer.{Answer}
 use Rattle.answer_text.specs.declared.answer.Answer.TheVariants.{Infeasible}
 use Rattle.answer_text.proofs.Printed.{may-print, read-back}
 use Rattle.slab_top.specs.Best.{IsTidyPlan, IsBest, loss_alone}
-use Rattle.slab_top.specs.Heavy.{NoneHeavy, IsFirstHeavy}
+use Rattle.mill_model.specs.Heavy.{NoneHeavy, IsFirstHeavy}
 use Rattle.slab_top.specs.Search.{answer_from}
 use Rattle.slab_top.specs.Outcome.{IsToldAnswer}
 use Rattle.slab_top.specs.Answer.{IsSolution, IsRefutation, HasLogFor, IsSolved}

@@ -4,9 +4,8 @@ use Rattle.std.specs.Prelude.{slice_index}
 use mathlib.Core.Path.{fun_ext}
 use Rattle.mill_model.specs.Instance.{Problem, mill_of, loss_charge}
 use Rattle.mill_model.specs.Plan.{NoneLosesLess}
-use Rattle.mill_model.specs.Log.{Task, Refutes}
+use Rattle.mill_model.specs.Log.{Task, Refutes, task_of_orders}
 use Rattle.mill_model.specs.declared.closing.Entry.{Entry}
-use Rattle.mill_laws.specs.LogLaws.{task_of}
 use Rattle.log_checker.specs.Verdict.{is_missing, is_stray, is_unsound, is_wrong, IsFirst}
 use Rattle.slab_top.specs.Verify.{task_of_problem, IsLegalWith, IsVerified, IsFirstFault}
 

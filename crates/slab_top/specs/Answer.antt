@@ -17,13 +17,12 @@ use Rattle.slab_top.specs.declared.words.Job.{Job}
 use Rattle.slab_top.specs.declared.judgement.Judgement.{Judgement}
 use Rattle.slab_top.specs.declared.outcome.Refusal.{Refusal}
 use Rattle.slab_top.specs.declared.outcome.Refusal.TheVariants.{TooLong, BadByte, Short, OutOfRange}
-use Rattle.slab_top.specs.declared.outcome.Refusal.TheVariants.{Rest, AnswerLine}
-use Rattle.slab_top.specs.declared.outcome.Refusal.TheVariants.{AnswerNotRising, AnswerCount}
-use Rattle.slab_top.specs.declared.outcome.Refusal.TheVariants.{AnswerKind}
+use Rattle.slab_top.specs.declared.outcome.Refusal.TheVariants.{Rest, AnswerLine, AnswerNotRising}
+use Rattle.slab_top.specs.declared.outcome.Refusal.TheVariants.{AnswerCount, AnswerKind}
 use Rattle.slab_top.specs.declared.outcome.Outcome.{Outcome}
 use Rattle.slab_top.specs.declared.outcome.Outcome.TheVariants.{WrongWords, Refused, Solved, Judged}
 use Rattle.slab_top.specs.Best.{IsBest, IsFeasible}
-use Rattle.slab_top.specs.Heavy.{IsFirstHeavy, NoneHeavy}
+use Rattle.mill_model.specs.Heavy.{IsFirstHeavy, NoneHeavy}
 use Rattle.slab_top.specs.Judgement.{IsSaidOf}
 use Rattle.slab_top.specs.Verify.{task_of_problem, IsVerdictOn, ProvesNothing}
 use Rattle.slab_top.specs.Words.{AskFor, limit_of, takes_answer}

@@ -3,15 +3,16 @@ use Rattle.std.specs.Prelude.{◌≡◌, ◌≢◌, ℕ, ◌+◌, List, ◌∷�
 use Rattle.std.specs.Prelude.{Option, Some, None}
 use Rattle.line_text.specs.Numbers.{ordinal}
 use Rattle.mill_model.specs.Instance.{Problem, mill_of, loss_charge}
-use Rattle.plan_check.specs.Verdicts.{IsLegal, IsHeavy, IsColourful}
+use Rattle.plan_check.specs.Verdicts.{IsHeavy, IsColourful}
+use Rattle.mill_model.specs.Plan.{IsPlanWithLoss}
 use Rattle.answer_text.specs.declared.answer.Answer.{Answer}
 use Rattle.answer_text.specs.declared.answer.Answer.TheVariants.{Optimal, Feasible, Infeasible}
 use Rattle.slab_top.specs.declared.judgement.Judgement.{Judgement}
 use Rattle.slab_top.specs.declared.judgement.Judgement.TheVariants.{Legal, Confirmed, Heavy}
 use Rattle.slab_top.specs.declared.judgement.Judgement.TheVariants.{Colourful, LossDiffers}
-use Rattle.slab_top.specs.declared.judgement.Judgement.TheVariants.{OrderDiffers, Verified}
-use Rattle.slab_top.specs.declared.judgement.Judgement.TheVariants.{Missing, Stray, Unsound}
-use Rattle.slab_top.specs.Heavy.{IsFirstHeavy, IsFirstHeavyIfAny}
+use Rattle.slab_top.specs.declared.judgement.Judgement.TheVariants.{OrderDiffers, Verified, Missing}
+use Rattle.slab_top.specs.declared.judgement.Judgement.TheVariants.{Stray, Unsound}
+use Rattle.mill_model.specs.Heavy.{IsFirstHeavy, IsFirstHeavyIfAny}
 
 -- 0 where the answer is accepted, and else 8
 abbrev pub status_of_judgement : Judgement → ℕ

@@ -5,7 +5,8 @@ use Rattle.mill_model.specs.Tree.{canonical}
 use Rattle.mill_model.specs.declared.plan.Start.{Start}
 use Rattle.order_symmetry.specs.Ranked.{IsRankOf}
 use Rattle.refute_log.specs.Logged.{Logged}
-use Rattle.tree_search.specs.Search.{IsPlanWithLoss, task_for}
+use Rattle.mill_model.specs.Best.{IsStartOf}
+use Rattle.mill_model.specs.Log.{task_of}
 use Rattle.answer_text.specs.declared.answer.Answer.{Answer}
 use Rattle.answer_text.specs.declared.answer.Answer.TheVariants.{Optimal, Feasible}
 use Rattle.slab_top.specs.declared.solve.Beginning.{Beginning}

@@ -1,15 +1,13 @@
 -- What `verify` says of an answer, and where.
 use Rattle.std.specs.Prelude.{◌≡◌, ℕ, Bool, List, Some, None}
 use Rattle.mill_model.specs.Instance.{Problem, mill_of, loss_charge}
-use Rattle.mill_model.specs.Plan.{NoneLosesLess}
-use Rattle.mill_model.specs.Log.{Task, Refutes}
+use Rattle.mill_model.specs.Plan.{NoneLosesLess, IsPlanWithLoss}
+use Rattle.mill_model.specs.Log.{Task, Refutes, task_of_orders}
 use Rattle.mill_model.specs.declared.closing.Entry.{Entry}
-use Rattle.mill_laws.specs.LogLaws.{task_of}
-use Rattle.plan_check.specs.Verdicts.{IsLegal}
 use Rattle.log_checker.specs.Verdict.{is_missing, is_stray, is_unsound, is_wrong, IsFirst}
 use Rattle.slab_top.specs.declared.judgement.Judgement.{Judgement}
-use Rattle.slab_top.specs.declared.judgement.Judgement.TheVariants.{Legal, Verified}
-use Rattle.slab_top.specs.declared.judgement.Judgement.TheVariants.{Missing, Stray, Unsound}
+use Rattle.slab_top.specs.declared.judgement.Judgement.TheVariants.{Legal, Verified, Missing, Stray}
+use Rattle.slab_top.specs.declared.judgement.Judgement.TheVariants.{Unsound}
 use Rattle.answer_text.specs.declared.answer.Answer.{Answer}
 use Rattle.answer_text.specs.declared.answer.Answer.TheVariants.{Optimal, Feasible, Infeasible}
 use Rattle.slab_top.specs.Judgement.{IsSaidOfPlan, IsSaidOfOrder}

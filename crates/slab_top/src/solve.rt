@@ -3,7 +3,7 @@ ghost use Rattle.mill_model.specs.Instance.{IsInstance, largest};
 ghost use Rattle.list_laws.specs.Sets.{below};
 ghost use Rattle.loss_table.specs.Charges.{AreCharges};
 ghost use Rattle.slab_top.specs.Best.{loss_alone};
-ghost use Rattle.slab_top.specs.Heavy.{IsFirstHeavyIfAny, NoneHeavy};
+ghost use Rattle.mill_model.specs.Heavy.{IsFirstHeavyIfAny, NoneHeavy};
 ghost use Rattle.slab_top.specs.Outcome.{IsToldAnswer};
 ghost use Rattle.slab_top.specs.Answer.{IsSolved};
 ghost use Rattle.slab_top.specs.Search.{IsBeginning, answer_from};

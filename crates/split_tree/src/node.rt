@@ -1,5 +1,6 @@
 ghost use Rattle.std.specs.Prelude.{◌≡◌, ◌<◌, ◌≤◌, ◌+◌, ◌++◌, ◌∷◌, [], List, true, All};
 ghost use Rattle.std.specs.Prelude.{length, slice_index, IfOk};
+ghost use Rattle.mill_model.specs.Charges.{Reaches, charge_of};
 ghost use Rattle.mill_model.specs.Plan.{IsLegalPlan};
 ghost use Rattle.mill_model.specs.Rank.{rank};
 ghost use Rattle.mill_model.specs.Slab.{legal};

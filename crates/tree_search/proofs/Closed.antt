@@ -16,7 +16,7 @@ use Rattle.mill_model.specs.declared.plan.Start.{Start}
 use Rattle.list_laws.proofs.Times.{times-append}
 use Rattle.mill_laws.proofs.Merged.{sound-less}
 use Rattle.list_laws.proofs.Among.{each-append, each-weaker}
-use Rattle.refute_log.proofs.Rises.{recorded-append}
+use Rattle.mill_model.proofs.Records.{recorded-append}
 use Rattle.refute_log.specs.Fits.{fits}
 use Rattle.refute_log.specs.Rising.{rises}
 use Rattle.tree_search.specs.Search.{HasSearched, IsClosed, IsSearched}

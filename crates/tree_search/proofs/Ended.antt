@@ -112,11 +112,11 @@ module _ (Kept : List Entry → Type 0) (problem : Problem) (charges : ChargeTab
       (subst (λ ws. IsSearched task problem.orders from best h.log (reverse ws)) none h.searched)
 
   -- so no legal plan loses less
-  pub none-loses-less : get_or charges 0 0 ≡ 0 → waiting ≡ [] →
-      NoneLosesLess (mill_of problem) (λ load. get_or charges load 0) problem.orders best.loss
-  none-loses-less free none =
-      refuted-loss-bounds (mill_of problem) (λ load. get_or charges load 0) problem.orders best.loss
-      h.log free (none-waits none)
+  pub none-loses-less : waiting ≡ [] →
+      NoneLosesLess (mill_of problem) (charge_of charges) problem.orders best.loss
+  none-loses-less none =
+      refuted-loss-bounds (mill_of problem) (charge_of charges) problem.orders best.loss
+      h.log charges.free (none-waits none)
 
   -- where one waits, the tree has more paths than were closed
   pub some-waits : 0 < length waiting → closed < enough (length problem.orders)

@@ -14,14 +14,15 @@ use Rattle.order_symmetry.specs.Ranked.{RankedOrders, IsRankOf, IsPlanOf, orders
 use Rattle.split_tree.specs.Node.{groups_loss}
 
 -- the groups of a leaf are charged what its plan loses
-leaf-loss : (problem : Problem) (ranked : RankedOrders) (charges path : List ℕ) →
+leaf-loss : (problem : Problem) (ranked : RankedOrders) (charges : ChargeTable)
+    (path : List ℕ) →
     IsRankOf problem ranked → in_tree ranked.mill (orders_of ranked) path ≡ true →
-    length path ≡ length ranked.placed → get_or charges 0 0 ≡ 0 →
-    groups_loss (λ load. get_or charges load 0) (record { ranked = ranked; path = path })
-    ≡ loss (λ load. get_or charges load 0) path (ranked_orders problem.orders)
+    length path ≡ length ranked.placed →
+    groups_loss (charge_of charges) (record { ranked = ranked; path = path })
+    ≡ loss (charge_of charges) path (ranked_orders problem.orders)
 leaf-loss problem ranked charges path of inside full =
     let orders = orders_of ranked in
-    let charge : ℕ → ℕ = λ load. get_or charges load 0 in
+    let charge : ℕ → ℕ = charge_of charges in
     let long : length orders ≡ length ranked.placed =
     length-map ranked.placed (λ p. p.order) in
     let few : next_new path ≤ length orders =
@@ -30,11 +31,12 @@ leaf-loss problem ranked charges path of inside full =
     (λ s new. ap (λ group. charge (load group)) (slab-new s path orders new) ∙ charges.free))
     ∙ ap (loss charge path) (ap (λ placed. map (λ p. p.order) placed) of.placed)
 
-module _ (problem : Problem) (ranked : RankedOrders) (charges path : List ℕ)
+module _ (problem : Problem) (ranked : RankedOrders) (charges : ChargeTable)
+    (path : List ℕ)
     (of : IsRankOf problem ranked)
     (inside : in_tree ranked.mill (orders_of ranked) path ≡ true)
     (full : length path ≡ length ranked.placed)
-    (lost : ℕ) (is : lost ≡ groups_loss (λ load. get_or charges load 0)
+    (lost : ℕ) (is : lost ≡ groups_loss (charge_of charges)
     (record { ranked = ranked; path = path })) where
   -- the plan of a leaf, with what its groups are charged
   pub leaf-plan : (plan : List ℕ) → IsPlanOf problem.orders path plan →
@@ -44,12 +46,12 @@ module _ (problem : Problem) (ranked : RankedOrders) (charges path : List ℕ)
   leaf-plan plan from legal = record {
     legal = subst (λ mill. IsLegalPlan mill problem.orders plan) of.mill legal;
     loses =
-        from.loses (λ load. get_or charges load 0)
+        from.loses (charge_of charges)
         ∙ sym (leaf-loss problem ranked charges path of inside full) ∙ sym is;
   }
 
   -- what loses no more than the groups loses no more than the leaf
   pub leaf-at-most : (bound : ℕ) → bound ≤ lost →
-      bound ≤ loss (λ load. get_or charges load 0) path (ranked_orders problem.orders)
+      bound ≤ loss (charge_of charges) path (ranked_orders problem.orders)
   leaf-at-most bound most =
       omega (arith, is, leaf-loss problem ranked charges path of inside full)

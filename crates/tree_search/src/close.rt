@@ -1,11 +1,13 @@
 ghost use Rattle.std.specs.Prelude.{◌≡◌, ◌+◌, ◌≤◌, ◌++◌, true, length, reverse};
 ghost use Rattle.std.specs.Prelude.{slice_index, IfOk, OnOk};
-ghost use Rattle.mill_model.specs.Instance.{largest};
-ghost use Rattle.mill_model.specs.Log.{left_open};
+ghost use Rattle.mill_model.specs.Best.{IsStartOf};
+ghost use Rattle.mill_model.specs.Charges.{Reaches, charge_of};
+ghost use Rattle.mill_model.specs.Instance.{mill_of};
+ghost use Rattle.mill_model.specs.Log.{left_open, task_of};
 ghost use Rattle.mill_model.specs.Plan.{loss};
 ghost use Rattle.mill_model.specs.Tree.{in_tree};
 ghost use Rattle.order_symmetry.specs.Ranked.{IsRankOf, orders_of};
-ghost use Rattle.tree_search.specs.Search.{IsClosed, IsPlanWithLoss, task_for};
+ghost use Rattle.tree_search.specs.Search.{IsClosed};
 
 use mill_model::{Charges, Closing, Instance, OutOfMemory, Path, Start};
 use order_symmetry::Ranked;

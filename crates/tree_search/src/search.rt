@@ -1,13 +1,15 @@
 ghost use Rattle.std.specs.Prelude.{◌≡◌, ◌+◌, ◌<◌, ◌≤◌, List, [], length, slice_index, vec_len};
 ghost use Rattle.std.specs.Prelude.{IfOk};
-ghost use Rattle.mill_model.specs.Instance.{largest, mill_of};
-ghost use Rattle.mill_model.specs.Log.{Refutes};
+ghost use Rattle.mill_model.specs.Best.{IsStartOf};
+ghost use Rattle.mill_model.specs.Charges.{Reaches, charge_of};
+ghost use Rattle.mill_model.specs.Instance.{mill_of};
+ghost use Rattle.mill_model.specs.Log.{Refutes, task_of};
 ghost use Rattle.mill_model.specs.Plan.{NoneLosesLess};
 ghost use Rattle.mill_model.specs.Size.{enough};
 ghost use Rattle.mill_model.specs.declared.closing.Entry.{Entry};
 ghost use Rattle.order_symmetry.specs.Ranked.{IsRankOf};
 ghost use Rattle.refute_log.specs.Logged.{IsLog};
-ghost use Rattle.tree_search.specs.Search.{HasSearched, IsPlanWithLoss, IsRun, task_for};
+ghost use Rattle.tree_search.specs.Search.{HasSearched, IsRun};
 
 use crate::close::close;
 use crate::recorder::{Recorder, Unrecorded};

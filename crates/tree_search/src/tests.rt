@@ -3,7 +3,9 @@
 ghost use Rattle.std.specs.Prelude.{◌≡◌, ◌+◌, ◌≤◌, length, slice_index, IfOk, IfSome};
 ghost use Rattle.mill_model.specs.Instance.{largest};
 ghost use Rattle.order_symmetry.specs.Ranked.{IsRankOf};
-ghost use Rattle.tree_search.specs.Search.{IsPlanWithLoss, task_for};
+ghost use Rattle.mill_model.specs.Best.{IsStartOf};
+ghost use Rattle.mill_model.specs.Charges.{Reaches, charge_of};
+ghost use Rattle.mill_model.specs.Instance.{mill_of};
 
 use super::*;
 use mill_model::{Charges, Instance, Order, OutOfMemory, Path, Start};

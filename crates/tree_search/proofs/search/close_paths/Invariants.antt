@@ -3,5 +3,5 @@ use Rattle.tree_search.proofs.search.close_paths.Given as goal
 
 abbrev pub invariant-loop-closed : goal.invariant-loop-closed
 invariant-loop-closed g l =
-    HasSearched (g.R.Recorder.keeps l.recorder) (task_for l.instance l.charges) l.instance.orders
+    HasSearched (g.R.Recorder.keeps l.recorder) (task_of l.instance (charge_of l.charges)) l.instance.orders
     l.fn.start.loss l.best l.waiting.items l.closed

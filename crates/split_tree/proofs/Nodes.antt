@@ -13,7 +13,7 @@ use Rattle.mill_model.specs.declared.order.Order.{Order}
 use Rattle.mill_model.specs.Tree.{next_new, last_number}
 use Rattle.mill_model.specs.declared.order.TheConstants.{MAX_ORDERS}
 use Rattle.list_laws.proofs.Tests.{and-left}
-use Rattle.mill_laws.proofs.Paths.{tree-bound}
+use Rattle.mill_laws.proofs.Paths.{tree-bound, tree-length}
 use Rattle.mill_laws.proofs.TreeLaws.{each-leaf-is-a-plan}
 use Rattle.order_symmetry.specs.Ranked.{IsPlanOf, orders_of}
 use Rattle.order_symmetry.proofs.Limits.{few}
@@ -28,7 +28,7 @@ module _ (node : Node) (is : IsNode node) where
       length-map node.ranked.placed (λ x. x.order) in
       omega (
         arith,
-        leb-true _ _ (and-left (leb (length node.path) (length (orders_of node.ranked))) _ is.tree),
+        tree-length node.ranked.mill (orders_of node.ranked) node.path is.tree,
       )
 
   pub path-short : length node.path ≤ MAX_ORDERS

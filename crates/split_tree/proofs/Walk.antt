@@ -82,8 +82,7 @@ module _ (ranked : RankedOrders) (path : List ℕ) (i : ℕ) (order : Order)
       goes-first ranked.mill (orders_of ranked) (take i path) g (drop (suc i) path)
       (goes-behind ranked.mill (orders_of ranked) [] (take i path) (g ∷ drop (suc i) path)
       (subst (λ xs. goes_on ranked.mill (orders_of ranked) [] xs ≡ true)
-      (take-drop-one path i below)
-      (and-right (leb (length path) (length (orders_of ranked))) _ tree)))
+      (take-drop-one path i below) tree))
 
   grown : group_of after g ≡ group_of before g ++ order ∷ []
   grown = ap (λ xs. slab g xs (orders_of ranked)) more

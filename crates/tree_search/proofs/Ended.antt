@@ -28,6 +28,9 @@ use Rattle.refute_log.specs.Fits.{fits}
 use Rattle.refute_log.specs.Logged.{IsLog}
 use Rattle.tree_search.specs.Search.{HasSearched, IsRun, IsSearched}
 use Rattle.tree_search.proofs.Lists.{times-reverse}
+use Rattle.mill_model.specs.Charges.{ChargeTable}
+use Rattle.mill_model.specs.Log.{task_of}
+use Rattle.mill_model.specs.Charges.{charge_of}
 
 pub ranked-count : (orders : List Order) → length (ranked_orders orders) ≡ length orders
 ranked-count orders = length-map (rank orders) (λ p. p.order) ∙ rank-length 0 orders

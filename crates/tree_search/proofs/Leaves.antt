@@ -12,6 +12,9 @@ use Rattle.mill_laws.proofs.Groups.{slab-new}
 use Rattle.mill_laws.proofs.Paths.{tree-bound}
 use Rattle.order_symmetry.specs.Ranked.{RankedOrders, IsRankOf, IsPlanOf, orders_of}
 use Rattle.split_tree.specs.Node.{groups_loss}
+use Rattle.mill_model.specs.Charges.{ChargeTable}
+use Rattle.mill_model.specs.Charges.{charge_of}
+use Rattle.mill_model.specs.Best.{IsStartOf}
 
 -- the groups of a leaf are charged what its plan loses
 leaf-loss : (problem : Problem) (ranked : RankedOrders) (charges : ChargeTable)

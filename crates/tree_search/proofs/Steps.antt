@@ -14,26 +14,25 @@ use Rattle.mill_model.specs.declared.closing.Closing.TheVariants.{Split, Leaf}
 use Rattle.mill_model.specs.declared.order.Order.{Order}
 use Rattle.mill_model.specs.declared.plan.Start.{Start}
 use Rattle.mill_laws.proofs.Groups.{numbers-below}
-use Rattle.mill_laws.proofs.Paths.{tree-bound}
+use Rattle.mill_laws.proofs.Paths.{tree-bound, tree-length}
 use Rattle.order_symmetry.specs.Ranked.{RankedOrders, IsRankOf, orders_of}
 use Rattle.refute_log.specs.Fits.{path_fits}
 use Rattle.split_tree.specs.Node.{Node}
 use Rattle.tree_search.specs.Search.{IsClosed}
+use Rattle.mill_model.specs.Charges.{ChargeTable}
+use Rattle.mill_model.specs.Best.{IsStartOf}
+use Rattle.mill_model.specs.Charges.{charge_of}
+use Rattle.mill_model.specs.Log.{task_of}
 
 -- a path of the tree is a path for its orders
 tree-fits_path : (mill : Mill) (ranked : List Order) (path : List ℕ) →
     in_tree mill ranked path ≡ true → path_fits (length ranked) path ≡ true
 tree-fits_path mill ranked path inside =
-    let parts = and_parts (leb (length path) (length ranked)) (goes_on mill ranked [] path) inside
-    in
+    let long : length path ≤ length ranked = tree-length mill ranked path inside in
     let few : next_new path ≤ length ranked =
-    omega (
-      arith,
-      tree-bound mill ranked path inside,
-      leb-true (length path) (length ranked) parts.0,
-    ) in
+    omega (arith, tree-bound mill ranked path inside, long) in
     and_from (leb (length path) (length ranked)) (list_all (λ g. ltb g (length ranked)) path)
-    parts.0 (numbers-below (length ranked) path few)
+    (le-leb (length path) (length ranked) long) (numbers-below (length ranked) path few)
 
 module _ (problem : Problem) (ranked : RankedOrders) (charges : ChargeTable)
     (of : IsRankOf problem ranked) where

@@ -1,5 +1,7 @@
 use Rattle.tree_search.specs.Search.{HasSearched}
 use Rattle.tree_search.proofs.search.close_paths.Given as goal
+use Rattle.mill_model.specs.Log.{task_of}
+use Rattle.mill_model.specs.Charges.{charge_of}
 
 abbrev pub invariant-loop-closed : goal.invariant-loop-closed
 invariant-loop-closed g l =

@@ -16,3 +16,5 @@ pub mod Size
 pub mod Best
 pub mod Exactly
 pub mod Small
+pub mod Starts
+pub mod Pairs

@@ -1,7 +1,7 @@
 -- The rank is the one order of the file's orders, each with its place, in which each stands before
 -- the next: weight falling, then colour rising, then place rising.
-use Rattle.std.proofs.Common.{ℕ, suc, ◌<◌, ◌≡◌, ◌⊎◌, Bool, true, ◌&&◌, ◌||◌, not, List, [], ◌∷◌}
-use Rattle.std.proofs.Common.{ltb, refl, sym, ap₂, ◌∙◌, arith, inl, inr, subst}
+use Rattle.std.proofs.Common.{ℕ, suc, ◌<◌, ◌≡◌, ◌⊎◌, true, List, [], ◌∷◌}
+use Rattle.std.proofs.Common.{refl, sym, ap₂, ◌∙◌, arith, inl, inr, subst}
 use Rattle.std.proofs.lemmas.Bool.Decides.{nat_tests}
 use Rattle.std.specs.List.{AllByRecursion}
 use Rattle.mill_model.specs.Rank.{Placed, is_before, put_in_rank, rank_from, rank, precedes}
@@ -13,6 +13,11 @@ use Rattle.list_laws.proofs.Times.{times-pos, times-among}
 use Rattle.mill_model.specs.declared.order.Order.{Order}
 use Rattle.list_laws.proofs.Among.{Among, each-at, each-weaker}
 use Rattle.list_laws.proofs.Tests.{either}
+use Rattle.list_laws.proofs.Tests.{and-left}
+use Rattle.std.proofs.Common.{ap}
+use Rattle.std.proofs.Common.{cond, eqb-true}
+use Rattle.list_laws.proofs.Tests.{and-right}
+use Rattle.std.proofs.Common.{◌+◌}
 
 pub precedes-trans : (x y z : Placed) → precedes x y ≡ true → precedes y z ≡ true →
     precedes x z ≡ true

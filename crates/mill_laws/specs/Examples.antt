@@ -1,5 +1,5 @@
 -- Small instances, with their logs, at which the definitions are computed.
-use Rattle.std.specs.Prelude.{ℕ, Bool, List, [], ◌∷◌, ◌++◌, length, ℤ, pos}
+use Rattle.std.specs.Prelude.{ℕ, Bool, List, [], ◌∷◌, ◌++◌, ℤ, pos}
 use Rattle.mill_model.specs.Slab.{Mill}
 use Rattle.mill_model.specs.Prices.{worth}
 use Rattle.mill_model.specs.LiveKey.{same_live_key}

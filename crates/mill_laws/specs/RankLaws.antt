@@ -1,5 +1,5 @@
 -- Laws of the rank: it is the one list of a file's orders in which each precedes all behind it.
-use Rattle.std.specs.Prelude.{ℕ, ◌≡◌, true, List, [], ◌∷◌}
+use Rattle.std.specs.Prelude.{◌≡◌, true, List, [], ◌∷◌}
 use Rattle.std.specs.List.{AllByRecursion}
 use Rattle.list_laws.specs.Sets.{SameTimes}
 use Rattle.mill_model.specs.Rank.{Placed, precedes, placed_from, same_placed, rank}

@@ -1,15 +1,14 @@
 -- A file's orders, sorted by the key, are its rank.
-use Rattle.std.proofs.Common.{ℕ, suc, ◌+◌, ◌≡◌, true, false, cond, List, [], ◌∷◌, ◌++◌, map, refl}
-use Rattle.std.proofs.Common.{sym, ap, ◌∙◌, arith, inl, inr, length, get_or, take, ◌<◌}
+use Rattle.std.proofs.Common.{ℕ, suc, ◌+◌, ◌≡◌, true, false, List, [], ◌∷◌, ◌++◌, map, refl}
+use Rattle.std.proofs.Common.{sym, ap, ◌∙◌, arith, length, get_or, take, ◌<◌}
 use Rattle.std.proofs.lemmas.List.Sorted.{IsPermutation-map}
 use Rattle.std.proofs.lemmas.List.{get_or-map, length-map, take_more, length-take, map-append}
 use Rattle.std.specs.List.{AllByRecursion}
 use Rattle.std.specs.List.Sorted.{IsPermutation, IsSortedBy}
-use Rattle.list_laws.specs.Sets.{times, SameTimes}
-use Rattle.mill_model.specs.Rank.{Placed, is_before, put_in_rank, rank_from, rank, precedes}
+use Rattle.list_laws.specs.Sets.{times}
+use Rattle.mill_model.specs.Rank.{Placed, rank_from, rank, precedes}
 use Rattle.mill_model.specs.Rank.{same_placed}
 use Rattle.mill_model.specs.declared.order.Order.{Order}
-use Rattle.list_laws.proofs.Tests.{either}
 use Rattle.list_laws.proofs.Among.{each-weaker}
 use Rattle.mill_laws.proofs.Ranking.{rank-rising, all-put}
 use Rattle.mill_laws.specs.RankLaws.{Rising}
@@ -17,6 +16,8 @@ use Rattle.order_symmetry.specs.Numbered.{placed_of, stands_before}
 use Rattle.order_symmetry.specs.declared.numbered.Numbered.{Numbered}
 use Rattle.order_symmetry.proofs.Sorted.{NoneBefore, none-before, none-before-unique, one_way}
 use Rattle.order_symmetry.proofs.Sorted.{times-permutation}
+use Rattle.mill_model.specs.Rank.{placed_from}
+use Rattle.mill_laws.proofs.Ranking.{rank-times}
 
 pub placed_from-append : (k : ℕ) (xs ys : List Order) →
     placed_from k (xs ++ ys) ≡ placed_from k xs ++ placed_from (k + length xs) ys

@@ -1,6 +1,6 @@
 -- Placed orders, sorted: one list has the same things in this order.
-use Rattle.std.proofs.Common.{ℕ, suc, ◌+◌, ◌<◌, ◌≡◌, ◌⊎◌, Bool, true, false, cond, ◌&&◌, List, []}
-use Rattle.std.proofs.Common.{◌∷◌, eqb, refl, sym, ap, ap₂, ◌∙◌, arith, inl, inr, eqb-true, eq-eqb}
+use Rattle.std.proofs.Common.{ℕ, suc, ◌+◌, ◌<◌, ◌≡◌, ◌⊎◌, true, false, cond, List, []}
+use Rattle.std.proofs.Common.{◌∷◌, refl, sym, ap, ap₂, ◌∙◌, arith, inl, inr}
 use Rattle.std.proofs.lemmas.Bool.Decides.{nat_tests}
 use Rattle.std.proofs.lemmas.List.Sorted.{sorted_far, sum_by-IsPermutation}
 use Rattle.std.proofs.lemmas.List.Sums.{sum_by-cons}
@@ -9,11 +9,9 @@ use Rattle.std.specs.Cmp.{IsStrictWeakOrder}
 use Rattle.std.specs.List.{AllByRecursion, sum_by}
 use Rattle.std.specs.List.Sorted.{IsPermutation, IsSortedBy}
 use Rattle.list_laws.specs.Sets.{times, SameTimes}
-use Rattle.mill_model.specs.Rank.{Placed, same_order}
+use Rattle.mill_model.specs.Rank.{Placed}
 use Rattle.list_laws.proofs.Among.{Among, each-at}
-use Rattle.list_laws.proofs.Tests.{and-left, and-right}
 use Rattle.list_laws.proofs.Times.{times-pos, times-among}
-use Rattle.mill_laws.proofs.Settle.{same_order-eq}
 use Rattle.mill_model.specs.Rank.{precedes, same_placed}
 use Rattle.mill_laws.proofs.Ranking.{same_placed-refl, same_placed-eq}
 

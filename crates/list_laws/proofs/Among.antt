@@ -1,10 +1,11 @@
 -- What stands among the things of a list.
-use Rattle.std.proofs.Common.{ℕ, zero, suc, ◌+◌, ◌<◌, ◌≡◌, ◌⊎◌, Bool, true, false, cond, ◌||◌, List}
+use Rattle.std.proofs.Common.{ℕ, zero, suc, ◌<◌, ◌≡◌, ◌⊎◌, Bool, true, false, cond, ◌||◌, List}
 use Rattle.std.proofs.Common.{[], ◌∷◌, ◌++◌, map, filter, length, set, refl, sym, ap, arith, inl}
 use Rattle.std.proofs.Common.{inr, subst, flat_map}
 use Rattle.std.specs.List.{list_all, list_any, AllByRecursion}
 use Rattle.list_laws.specs.Sets.{below, chosen, sets}
 use Rattle.list_laws.proofs.Tests.{and-left, and-right, last-or-below}
+use Rattle.std.proofs.Common.{◌∙◌}
 
 abbrev pub Among : {X : Type 0} → X → List X → Type 0
 Among x [] = ⊥
@@ -160,6 +161,18 @@ among-sets (false ∷ set) =
 among-sets (true ∷ set) =
     Among-append_right _ (map (λ s. false ∷ s) (sets (length set))) _
     (Among-map (λ s. true ∷ s) set (sets (length set)) (among-sets set))
+
+-- and each of these has n marks
+pub sets-length : (n : ℕ) (set : List Bool) → Among set (sets n) → length set ≡ n
+sets-length zero set (inl e) = ap length e
+sets-length zero set (inr none) = absurd none
+sets-length (suc n) set a =
+    elim (Among-unappend set (map (λ s. false ∷ s) (sets n)) (map (λ s. true ∷ s) (sets n)) a) [
+      | inl b ↦ (let u = Among-unmap (λ s. false ∷ s) set (sets n) b in
+          ap length u.2 ∙ ap suc (sets-length n u.0 u.1))
+      | inr b ↦ (let u = Among-unmap (λ s. true ∷ s) set (sets n) b in
+          ap length u.2 ∙ ap suc (sets-length n u.0 u.1))
+    ]
 
 pub chosen-among : {X : Type 0} (x : X) (marks : List Bool) (xs : List X) →
     Among x (chosen marks xs) → Among x xs

@@ -1,5 +1,5 @@
 -- How many different numbers a list has depends on which numbers it has.
-use Rattle.std.proofs.Common.{ℕ, zero, suc, ◌+◌, ◌<◌, ◌≤◌, ◌≡◌, ◌≢◌, ◌⊎◌, eqb, ltb, Bool, true}
+use Rattle.std.proofs.Common.{ℕ, zero, suc, ◌<◌, ◌≤◌, ◌≡◌, ◌≢◌, ◌⊎◌, eqb, ltb, Bool, true}
 use Rattle.std.proofs.Common.{false, cond, ◌||◌, List, [], ◌∷◌, ◌++◌, map, filter, length, refl}
 use Rattle.std.proofs.Common.{sym, ap, ◌∙◌, arith, inl, inr, eqb-true, eq-eqb, ne_eqb, false-eqb}
 use Rattle.std.proofs.Common.{le_antisymm}

@@ -1,8 +1,8 @@
 -- Lists that go on by one thing, prefixes, and sets of marks.
-use Rattle.std.proofs.Common.{ℕ, zero, suc, ◌+◌, ◌≡◌, eqb, Bool, true, false, ◌&&◌, List, [], ◌∷◌}
+use Rattle.std.proofs.Common.{ℕ, zero, suc, ◌≡◌, eqb, Bool, true, false, ◌&&◌, List, [], ◌∷◌}
 use Rattle.std.proofs.Common.{◌++◌, map, length, drop, replicate, refl, sym, ap, ap₂, ◌∙◌, arith}
 use Rattle.std.proofs.Common.{eqb-true, eq-eqb, length-append}
-use Rattle.list_laws.specs.Sets.{holds, below, chosen, same_list}
+use Rattle.list_laws.specs.Sets.{holds, below, chosen}
 use Rattle.list_laws.proofs.Tests.{or-left, or-right, and-left, and-right}
 
 pub length-push : (path : List ℕ) (g : ℕ) → length (path ++ g ∷ []) ≡ suc (length path)

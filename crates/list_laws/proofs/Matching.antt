@@ -6,7 +6,7 @@ use Rattle.std.proofs.Common.{inr, subst, eqb-true, eq-eqb, ne_eqb, length-appen
 use Rattle.std.proofs.lemmas.List.{map-append}
 use Rattle.std.proofs.lemmas.List.Elements.{filter-append}
 use Rattle.list_laws.specs.Sets.{holds, different, below, total, SameTimes}
-use Rattle.list_laws.proofs.Tests.{either, or-cases, or-left, or-right, clash}
+use Rattle.list_laws.proofs.Tests.{either, or-cases, or-left, or-right}
 use Rattle.list_laws.proofs.Lists.{length-push}
 use Rattle.list_laws.proofs.Among.{Among}
 use Rattle.list_laws.proofs.Different.{Within, different-mono, holds-append, different-length}

@@ -2,7 +2,6 @@
 use Rattle.std.proofs.Common.{ℕ, suc, ◌<◌, ◌≡◌, ◌⊎◌, eqb, ltb, Bool, true, false, ◌&&◌, ◌||◌, refl}
 use Rattle.std.proofs.Common.{sym, arith, inl, inr, eqb-true, ltb-true, eq-or-lt_of_le}
 use Rattle.std.proofs.lemmas.Bool.{cases_lt}
-use Rattle.list_laws.specs.Sets.{holds}
 
 pub either : (b : Bool) → (b ≡ true) ⊎ (b ≡ false)
 either true = inl refl

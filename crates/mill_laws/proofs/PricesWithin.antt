@@ -7,7 +7,7 @@
 -- a legal set, so that is at most 60 charges below zero.
 use Rattle.std.proofs.Common.{ℕ, zero, suc, ◌*◌, ◌<◌, ◌≤◌, ◌≡◌, Bool, true, false}
 use Rattle.std.proofs.Common.{not, List, [], ◌∷◌, ◌++◌, map, length, get_or, set, ℤ}
-use Rattle.std.proofs.Common.{pos, ◌-ℤ◌, ◌≤ℤ◌, int_le, eqb, refl, ap, subst, ◌∙◌, arith}
+use Rattle.std.proofs.Common.{pos, ◌-ℤ◌, ◌≤ℤ◌, int_le, eqb, refl, subst, ◌∙◌, arith}
 use Rattle.std.proofs.Common.{inl, inr, length-set, All}
 use Rattle.std.proofs.lemmas.Int.{ints}
 use Rattle.std.proofs.lemmas.List.{map-append, get_or-set_same}
@@ -16,7 +16,7 @@ use Rattle.std.specs.List.{list_any}
 use Rattle.list_laws.specs.Sets.{chosen, sets, below, int_sum}
 use Rattle.list_laws.proofs.Tests.{or-cases, or-left, or-right}
 use Rattle.list_laws.proofs.Among.{Among, Among-append_left, Among-filter, Among-unfilter}
-use Rattle.list_laws.proofs.Among.{Among-unappend, Among-unmap, all-among, any-from, among-sets}
+use Rattle.list_laws.proofs.Among.{Among-unappend, Among-unmap, all-among, any-from, among-sets, sets-length}
 use Rattle.list_laws.proofs.Different.{Within, different-mono, holds-append}
 use Rattle.mill_model.specs.Slab.{Mill, load, colours, legal}
 use Rattle.mill_model.specs.Plan.{slab}
@@ -93,7 +93,7 @@ without-legal mill group rest i marks a =
     let fewer = set marks i false in
     let was = Among-unfilter (λ set. legal mill (group ++ chosen set rest)) marks
     (sets (length rest)) a in
-    let long : length marks ≡ length rest = sets-long (length rest) marks was.0 in
+    let long : length marks ≡ length rest = sets-length (length rest) marks was.0 in
     let lighter : load (group ++ chosen fewer rest) ≤ load (group ++ chosen marks rest) =
     omega (
       arith,
@@ -119,17 +119,6 @@ without-legal mill group rest i marks a =
           holds-append c (colours_of group) (colours_of (chosen (set marks i false) rest)),
           holds-append c (colours_of group) (colours_of (chosen marks rest)),
         ))))
-
-    sets-long : (n : ℕ) (set : List Bool) → Among set (sets n) → length set ≡ n
-    sets-long zero set (inl e) = ap length e
-    sets-long zero set (inr f) = absurd f
-    sets-long (suc n) set a = elim (Among-unappend set (map (λ s. false ∷ s) (sets n))
-        (map (λ s. true ∷ s) (sets n)) a) [
-      | inl b ↦ (let u = Among-unmap (λ s. false ∷ s) set (sets n) b in
-          ap length u.2 ∙ ap suc (sets-long n u.0 u.1))
-      | inr b ↦ (let u = Among-unmap (λ s. true ∷ s) set (sets n) b in
-          ap length u.2 ∙ ap suc (sets-long n u.0 u.1))
-    ]
 
 -- One price of a sweep.
 

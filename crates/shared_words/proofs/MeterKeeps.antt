@@ -1,9 +1,9 @@
 -- Each step keeps the rule of the meter, and what it tells is true.
 --
--- A draw adds the number found to the tickets of one seat and one to the ticket word, so the tickets
--- of all seats stay the numbers below it. Past the budget it takes one of the draws that a seat has
--- left for that. As there were never more of these than shares, the word is at most the budget and
--- the shares together.
+-- A draw adds the number found to the tickets of one seat and one to the ticket word, so the
+-- tickets of all seats stay the numbers below it. Past the budget it takes one of the draws that a
+-- seat has left for that. As there were never more of these than shares, the word is at most the
+-- budget and the shares together.
 use Rattle.std.proofs.Common.{◌≡◌, ◌⊎◌, ℕ, ◌+◌, ◌%◌, ◌^◌, ◌<◌, ◌≤◌, ◌==◌, Bool, true, false, ◌||◌}
 use Rattle.std.proofs.Common.{true≢false, cond, nat_eq, List, [], ◌∷◌, set, count_by, slice_index}
 use Rattle.std.proofs.Common.{slice_set, refl, sym, ap, ◌∙◌, subst, inl, inr, ⊎_elim, IsTrue}
@@ -46,7 +46,8 @@ is_one : (n : ℕ) → (n == 1) ≡ true → n ≡ 1
 is_one n e = grind (arith, nat_tests)
 
 spend_cases : (nodes number : ℕ) →
-    ((number < nodes) × (spend_at nodes number ≡ 0)) ⊎ ((nodes ≤ number) × (spend_at nodes number ≡ 1))
+    ((number < nodes) × (spend_at nodes number ≡ 0))
+    ⊎ ((nodes ≤ number) × (spend_at nodes number ≡ 1))
 spend_cases nodes number = dite (dec_le nodes number)
     (λ past. inr (past, grind (arith, nat_tests)))
     (λ within. inl (omega arith, grind (arith, nat_tests)))

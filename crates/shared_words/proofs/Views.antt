@@ -37,7 +37,8 @@ module _ {V : Type 0} where
   -- a view that stands where another one was changed stood there before
   pub stood_there : (views : List V) (place other : ℕ) (new w : V) → other ≢ place →
       get_elem? (set views place new) other ≡ some w → get_elem? views other ≡ some w
-  stood_there views place other new w apart there = sym (set_else views place other new apart) ∙ there
+  stood_there views place other new w apart there =
+      sym (set_else views place other new apart) ∙ there
 
 module _ {V : Type 0} (P : ℕ → V → Type 0) where
   pub each_set : (views : List V) (place : ℕ) (new : V) → EachView P views → P place new →
@@ -142,7 +143,8 @@ module _ {V : Type 0} (f : V → ℕ) where
       sum_by f (set (set views place both) other spent) + f v + f w
       ≡ sum_by f views + f both + f spent
   sum_join views place other v w both spent here there =
-      omega (arith, sum_set views place v both here, sum_set (set views place both) other w spent there)
+      omega (arith, sum_set views place v both here,
+          sum_set (set views place both) other w spent there)
 
   one_of : (views : List V) (place : ℕ) (v : V) → get_elem? views place ≡ some v →
       f v ≤ sum_by f views

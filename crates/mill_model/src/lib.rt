@@ -14,6 +14,7 @@ mod prices;
 pub mod rows;
 #[cfg(test)]
 mod tests;
+mod threads;
 
 pub use charges::{Charges, MAX_CHARGE};
 pub use closing::{Closing, Entry};

@@ -39,13 +39,14 @@ class Read:
     cell: Cell
 
 
-def read_problem(path: Path, settings: Settings) -> Problem:
-    """The problem that a table of orders stands for."""
+def read_problem(path: Path, settings: Settings, added: tuple[Fraction, ...] = ()) -> Problem:
+    """The problem that a table of orders stands for, with sizes that are added to its own."""
     sheet = settings.sheet or first_sheet(path)
     table = read_table(path, sheet)
     columns = find_columns(table, {Column.ID: settings.id, Column.WEIGHT: settings.weight,
                                    Column.COLOUR: settings.colour})
     sizes, size_faults, origin = read_sizes(path, settings)
+    sizes += [Size(value, f'--add-size {show_plain(value)}') for value in added]
     lines, notes = order_lines(table, columns)
     reads, faults = read_lines(lines, settings.decimal)
     faults = table.ragged + size_faults + faults
@@ -57,13 +58,13 @@ def read_problem(path: Path, settings: Settings) -> Problem:
         faults.append(Fault('', 'there is no order below the header'))
     if faults:
         raise TableTrouble(table.name, faults)
-    unit, unit_origin = find_unit(table, columns, settings)
+    unit = find_unit(table, columns, settings)
     headers = {what: header_cell(table, column).text for what, column in columns.items()}
     problem = Problem(
         settings.title or path.stem, (), {}, tuple(sorted({size.value for size in sizes})),
-        settings.colours_per_slab, unit=unit, rounded=settings.round_up, headers=headers,
+        settings.colours_per_slab, unit=unit[0], rounded=settings.round_up, headers=headers,
         notes=tuple(table.notes + notes + colour_notes(reads)),
-        sources=sources_of(table, headers, settings, origin, unit_origin))
+        sources=sources_of(table, headers, settings, origin, unit, sizes))
     return scaled(problem, table.name, reads, sizes, settings)
 
 
@@ -188,16 +189,17 @@ def find_unit(table: Table, columns: dict[Column, int], settings: Settings) -> t
     return read_header(cell.text).unit, f'the header in {cell.place}'
 
 
-def sources_of(table: Table, headers: dict[Column, str], settings: Settings, sizes: str,
-               unit: str) -> tuple[Source, ...]:
+def sources_of(table: Table, headers: dict[Column, str], settings: Settings, origin: str,
+               unit: tuple[str, str], sizes: list[Size]) -> tuple[Source, ...]:
     """What the run rests on, and where each value comes from."""
     names = ', '.join(f'{what.value} "{header}"' for what, header in headers.items())
+    listed = '; '.join(show(value) for value in sorted({size.value for size in sizes}))
     found = [Source('orders', table.name, f'columns: {names}'),
-             Source('sizes', '', sizes),
+             Source('sizes', listed, origin),
              Source('colours per slab', str(settings.colours_per_slab),
                     settings.source('colours_per_slab'))]
-    if settings.unit or unit:
-        found.append(Source('unit', '', unit))
+    if unit[0]:
+        found.append(Source('unit', *unit))
     if settings.decimal:
         found.append(Source('decimal mark', settings.decimal.value, settings.source('decimal')))
     if settings.step is not None:

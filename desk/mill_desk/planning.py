@@ -168,7 +168,7 @@ def run_facts(program: Program, problem: Problem, answer: Answer, run: Run,
                       f'--colours {problem.limit}', is_code=True))
     missing = [f'{word} ({use})' for word, use in NOT_SERVED.items()]
     facts.append(Fact('not used', f'{", ".join(missing)}: the desk doesn\'t call these yet'))
-    return facts + digest_facts(program, problem, answer.text)
+    return facts + digest_facts(program, problem.instance_text().encode(), answer.text.encode())
 
 
 def source_facts(problem: Problem) -> list[Fact]:
@@ -180,13 +180,13 @@ def source_facts(problem: Problem) -> list[Fact]:
     return facts + [Fact('one step', f'{problem.amount(problem.step)}: {rounding}')]
 
 
-def digest_facts(program: Program, problem: Problem, answer: str) -> list[Fact]:
+def digest_facts(program: Program, instance: bytes, answer: bytes) -> list[Fact]:
     """The digests of what the run rests on."""
     named = f'{program.name} ' + ('(proved and built by it)' if program.is_ours else
                                   '(nothing is claimed for it)')
     return [Fact('program', named),
             Fact('SHA-256 of the program', program.sha256(), is_code=True),
-            Fact('SHA-256 of instance.txt', hashed(problem.instance_text()), is_code=True),
+            Fact('SHA-256 of instance.txt', hashed(instance), is_code=True),
             Fact('SHA-256 of answer.txt', hashed(answer), is_code=True)]
 
 
@@ -225,7 +225,7 @@ def judged(program: Program, problem: Problem, table: PlanTable) -> tuple[Result
         Fact('plan', table.name),
         Fact('check it again', f'cat instance.txt answer.txt | {shlex.quote(program.name)} check '
              f'--colours {problem.limit}', is_code=True),
-        *digest_facts(program, problem, text)]
+        *digest_facts(program, problem.instance_text().encode(), text.encode())]
     return Result(problem, answer, slabs, verdicts.of_check(program, problem, run, slabs, rows),
                   facts), run
 

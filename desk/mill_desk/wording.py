@@ -46,10 +46,11 @@ LINES: dict[str, str] = {
     'refused answer count stated A found B': 'The log states {A} records and has {B}.',
     'refused answer kind': 'There is nothing to verify: the answer is feasible, or optimal without '
                            'a log.',
-    'optimal': 'No legal plan loses less than this one.',
-    'feasible': 'The plan is legal; the budget ended first, so a better one may exist.',
-    'infeasible': 'There is no legal plan: an order is heavier than the largest size.',
-    'loss L': 'The plan loses {L} steps of steel.',
+    'optimal': 'It claims a legal plan, and that no legal plan loses less.',
+    'feasible': 'It claims a legal plan; the budget ended first, so a better one may exist.',
+    'infeasible': 'It claims that there is no legal plan: an order is heavier than the largest '
+                  'size.',
+    'loss L': 'The plan is to lose {L}.',
     'plan s1 .. sn': 'The slab of each order, in the order of the instance: {n} orders on {s} '
                      'slabs.',
     'spent N': 'The search closed {N} paths, which is its budget.',

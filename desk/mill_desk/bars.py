@@ -77,6 +77,25 @@ def scale_of(problem: Problem, slabs: Sequence[Slab], characters: int = 110) -> 
     return Scale(problem, longest, characters)
 
 
+@dataclass(frozen=True)
+class Room:
+    """Pixels for the names of slabs and for what is lost, and how much all ids share."""
+
+    name: int
+    lost: int
+    cut: int
+
+
+def room_of(problem: Problem, slabs: Sequence[Slab]) -> Room:
+    """The room that a page needs beside its bars."""
+    longest = max((len(slab.name) for slab in slabs), default=0)
+    ids = [order.id for order in problem.orders]
+    short = short_names(ids)
+    return Room(min(120, max(44, 8 * longest)),
+                66 if all(slab.is_legal for slab in slabs) else 104,
+                min((len(name) - len(short[name]) for name in ids), default=0))
+
+
 def ticks_of(scale: Scale) -> list[Tick]:
     """The sizes that can be written without touching, in two lines; the largest first."""
     room = Fraction(42, 1000) * scale.top

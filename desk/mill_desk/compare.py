@@ -5,7 +5,7 @@ from dataclasses import dataclass
 from fractions import Fraction
 from pathlib import Path
 
-from mill_desk.bars import Bar, Scale, bars_of, scale_of, ticks_of
+from mill_desk.bars import Bar, Scale, bars_of, room_of, scale_of
 from mill_desk.console import say
 from mill_desk.numbers import plural, show
 from mill_desk.orders import read_problem
@@ -122,8 +122,9 @@ def compare_page(problem: Problem, first: Side, second: Side, said: Verdict,
                   verdict=said, halves=[half_of(problem, scale, side, shared)
                                         for side in (first, second)],
                   same=[same[::2], same[1::2]], same_count=plural(len(same), 'slab'),
-                  names=(first.name, second.name), ticks=ticks_of(scale), moves=moves,
-                  moved=plural(len(moves), 'order'), facts=facts, notes=problem.notes, cut=0)
+                  names=(first.name, second.name), moves=moves,
+                  moved=plural(len(moves), 'order'), facts=facts, notes=problem.notes,
+                  room=room_of(problem, slabs))
 
 
 def half_of(problem: Problem, scale: Scale, side: Side, shared: set[frozenset[str]]) -> Half:

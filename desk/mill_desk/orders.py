@@ -104,7 +104,7 @@ def read_lines(lines: list[Line], asked: Mark | None) -> tuple[list[Read], list[
              if line.weight.number is None and line.weight.text]
     decided = asked or decide_mark(texts, 'weight')
     faults = [decided] if isinstance(decided, Fault) else []
-    mark = decided if isinstance(decided, Mark) else Mark.POINT
+    mark = decided if isinstance(decided, Mark) else None
     seen: dict[str, Cell] = {}
     reads = []
     for line in lines:
@@ -142,13 +142,15 @@ def id_faults(cell: Cell, seen: dict[str, Cell]) -> list[Fault]:
     return faults
 
 
-def read_weight(cell: Cell, mark: Mark) -> Fraction | Fault:
-    """The weight in a cell, which is above 0."""
+def read_weight(cell: Cell, mark: Mark | None) -> Fraction | Fault:
+    """The weight in a cell, which is above 0; under either mark where the column's isn't known."""
     if cell.trouble:
         return Fault(cell.place, *cell.trouble)
-    value = cell.number if cell.number is not None else read_number(cell.text, mark)
+    values = [read_number(cell.text, one) for one in ([mark] if mark else Mark)]
+    value = cell.number if cell.number is not None else \
+        next((value for value in values if value is not None), None)
     if value is None:
-        if any(read_number(cell.text, other) is not None for other in Mark):
+        if mark and read_number(cell.text, mark.other) is not None:
             return Fault(cell.place, f'the weight "{cell.text}" is no number with a decimal '
                          f'{mark.value}', 'write the whole column with one mark')
         return Fault(cell.place, *why_no_number(cell.text, 'weight'))

@@ -5,10 +5,10 @@ from collections.abc import Sequence
 from dataclasses import dataclass
 from fractions import Fraction
 
-from mill_desk.bars import bars_of, grid_of, scale_of, sort_key, ticks_of
+from mill_desk.bars import bars_of, grid_of, room_of, scale_of, sort_key, ticks_of
 from mill_desk.numbers import percent, plural, show
 from mill_desk.palette import shades
-from mill_desk.plan import Slab, short_names, totals_of
+from mill_desk.plan import Slab, totals_of
 from mill_desk.problem import Problem
 from mill_desk.rendering import render
 from mill_desk.wording import Verdict
@@ -141,13 +141,12 @@ def plan_page(problem: Problem, slabs: Sequence[Slab], verdict: Verdict, facts: 
               heading: str = 'Slab plan', further: Sequence[str] = ()) -> str:
     """The page of a plan, whether legal or not. `further` are paragraphs below the verdict."""
     scale = scale_of(problem, slabs)
-    ids = [order.id for order in problem.orders]
-    short = short_names(ids)
-    cut = min((len(name) - len(short[name]) for name in ids), default=0)
+    legal = all(slab.is_legal for slab in slabs)
     return render('page.html', heading=heading, title=problem.name,
                   subtitle=subtitle(problem, slabs), verdict=verdict, further=further,
-                  figures=figures_of(problem, slabs) if slabs else [],
+                  figures=figures_of(problem, slabs) if slabs and legal else [],
                   legend=legend_of(problem), ticks=ticks_of(scale), grid=grid_of(scale),
                   bars=bars_of(scale, slabs), sizes=size_rows(problem, slabs),
                   orders=order_rows(problem, slabs) if slabs else [],
-                  headers=headers_of(problem), facts=facts, notes=problem.notes, cut=cut)
+                  headers=headers_of(problem), facts=facts, notes=problem.notes,
+                  room=room_of(problem, slabs))

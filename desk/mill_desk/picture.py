@@ -14,7 +14,7 @@ from mill_desk.palette import MOST_HUES, shades
 from mill_desk.plan import Slab, short_names, totals_of
 from mill_desk.problem import Problem
 from mill_desk.rendering import render
-from mill_desk.wording import Verdict
+from mill_desk.wording import Mood, Verdict
 
 WIDTH, HEIGHT = 1600, 900
 LEFT, RIGHT, HEAD = 88, 30, 134
@@ -107,14 +107,20 @@ def slide(problem: Problem, slabs: Sequence[Slab], verdict: Verdict) -> str:
     frame = Frame(problem, 62 + 27 * rows if keyed else 62, 330 if rest else RIGHT, len(drawn))
     sums = totals_of(slabs)
     return render('picture.svg', width=WIDTH, height=HEIGHT, left=LEFT, frame=frame,
-                  title=f'{problem.name}: {plural(len(problem.orders), "order")} on '
+                  title=f'{clipped(problem.name, 46)}: {plural(len(problem.orders), "order")} on '
                         f'{plural(len(slabs), "slab")}',
                   lost=f'{problem.amount(sums.loss)} lost', loses=sums.loss > 0,
                   steel=f'of {problem.amount(sums.steel)} of steel '
                         f'({percent(sums.loss, sums.steel)}).',
-                  verdict=verdict, lines=lines_of(frame), entries=entries,
+                  settled=verdict.mood is Mood.SETTLED,
+                  headline=clipped(verdict.headline, 80), lines=lines_of(frame), entries=entries,
                   blocks=blocks_of(frame, drawn), names=names_of(frame, drawn),
                   rest=rest_of(problem, rest), rest_count=len(rest), foot=frame.foot)
+
+
+def clipped(text: str, most: int) -> str:
+    """The text, cut where it would run out of the picture."""
+    return text if len(text) <= most else text[:most - 2] + '..'
 
 
 def lines_of(frame: Frame) -> list[Line]:

@@ -146,7 +146,8 @@ def tell(result: Result, paths: Sequence[Path], left_out: Sequence[str]) -> None
     for line in (result.verdict.text, *result.further):
         if line:
             say(line)
-    say(verdicts.in_short(result.problem, result.slabs) + '.')
+    if all(slab.is_legal for slab in result.slabs):
+        say(verdicts.in_short(result.problem, result.slabs) + '.')
     for note in result.problem.notes:
         say(f'Note: {note}.')
     for line in left_out:

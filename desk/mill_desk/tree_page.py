@@ -35,7 +35,6 @@ class Box:
     number: int
     kind: str
     label: str
-    title: str
     joins: str
     slabs: tuple[SlabBar, ...]
     more_slabs: int
@@ -121,8 +120,7 @@ class Drawing:
         joins = '' if not path else \
             f'slab {path[-1]}' if path[-1] in path[:-1] else f'new slab {path[-1]}'
         groups = list(self.tree.ranking.groups(path).values())
-        return Box(self.numbers[path], kind, words.label, f'Path {path_text(path)}. {words.text}',
-                   joins, tuple(self._slab(orders) for orders in groups[:BOX_ROWS]),
+        return Box(self.numbers[path], kind, words.label, joins, tuple(self._slab(orders) for orders in groups[:BOX_ROWS]),
                    max(0, len(groups) - BOX_ROWS), target, self.below[path],
                    is_cut=len(path) == self.depth and self.below[path] > 0)
 

@@ -19,6 +19,14 @@
       });
       piece.textContent = fits.length ? fits[0] : '';
     });
+    ['em.high', 'em:not(.high)'].forEach(function (line) {
+      var left = Infinity;
+      all('.axis ' + line).forEach(function (tick) {
+        var place = tick.getBoundingClientRect();
+        tick.style.visibility = place.right + 3 > left ? 'hidden' : '';
+        left = place.right + 3 > left ? left : place.left;
+      });
+    });
   }
   var waiting = 0;
   window.addEventListener('resize', function () {

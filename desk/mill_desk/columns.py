@@ -40,7 +40,7 @@ NAMES = {
         'brammengrossen', 'taille', 'tailles', 'format', 'formats'},
 }
 UNITS = ('t', 'to', 'tons', 'tonnes', 'tonnen', 'mt', 'kg', 'g', 'lb', 'lbs')
-_UNIT_AT_END = re.compile(r'^(.*\S)\s+(?:in\s+|en\s+)?(' + '|'.join(UNITS) + r')$')
+_UNIT_AT_END = re.compile(r'^(.*?\S)\s+(?:in\s+|en\s+)?(' + '|'.join(UNITS) + r')$')
 
 
 @dataclass(frozen=True)

@@ -214,7 +214,7 @@ def judged(program: Program, problem: Problem, table: PlanTable) -> tuple[Result
     run = judge(program, problem, 'check', text)
     if run.status not in (0, 8):
         raise failed(run)
-    legal = all(slab.is_legal for slab in slabs)
+    legal = counted is not None and not any(slab.is_colourful for slab in slabs)
     if legal != (run.status == 0) or (legal and run.line != f'legal loss {counted}'):
         raise DeskFault(f'its own count finds the plan {"" if legal else "not "}legal with a loss '
                         f'of {counted} steps, and check said: {run.line}')

@@ -26,7 +26,8 @@ def of_answer(program: Program, problem: Problem, answer: Answer, is_verified: b
         case = Case.FEASIBLE
     else:
         case = Case.VERIFIED if is_verified else Case.OPTIMAL
-    return verdict(case, speaker(program), loss=problem.amount_of_steps(answer.loss),
+    return verdict(case, speaker(program), problem.rounded,
+                   loss=problem.amount_of_steps(answer.loss),
                    spent=plural(answer.spent, 'node'),
                    records=plural(len(answer.log or ()), 'record'))
 
@@ -51,23 +52,25 @@ def of_check(program: Program, problem: Problem, run: Run, slabs: Sequence[Slab]
     """The verdict of `check` or `verify` on a plan; `rows` are the rows of the plan's orders."""
     said = read_line(run.line)
     by_number = {slab.number: slab for slab in slabs}
-    who = speaker(program)
+    who, rounded = speaker(program), problem.rounded
     if said is None:
         return verdict(Case.OTHER, sentence=f'The program says: {run.line}', line=run.line)
     if said.form in ('legal loss L', 'verified loss L'):
         case = Case.LEGAL if said.form.startswith('legal') else Case.VERIFIED
-        return verdict(case, who, loss=problem.amount_of_steps(said.number('L')),
+        return verdict(case, who, rounded, loss=problem.amount_of_steps(said.number('L')),
                        records='its log')
     if said.form == 'rejected heavy slab S load W':
         slab = by_number[said.number('S')]
-        return verdict(Case.HEAVY, who, slab=slab.name, top=problem.amount(problem.sizes[-1]),
-                       weight=problem.amount(slab.load), rows=orders_of(problem, slab, rows))
+        return verdict(Case.HEAVY, who, rounded, slab=slab.name,
+                       top=problem.amount_of_steps(problem.size_steps[-1]),
+                       weight=problem.amount_of_steps(said.number('W')),
+                       rows=orders_of(problem, slab, rows))
     if said.form == 'rejected colourful slab S colours C':
         slab = by_number[said.number('S')]
         return verdict(Case.COLOURFUL, who, slab=slab.name, colours=said.values['C'],
                        limit=plural(problem.limit, 'colour'), rows=orders_of(problem, slab, rows))
     if said.form == 'rejected loss stated A found B':
-        return verdict(Case.LOSS, who, stated=problem.amount_of_steps(said.number('A')),
+        return verdict(Case.LOSS, who, rounded, stated=problem.amount_of_steps(said.number('A')),
                        loss=problem.amount_of_steps(said.number('B')))
     return verdict(Case.OTHER, who, sentence=said.sentence, line=run.line)
 

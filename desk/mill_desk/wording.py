@@ -162,6 +162,7 @@ OF_OTHERS: dict[Case, tuple[str, str]] = {
 }
 NO_CLAIM = ('That program wasn\'t built by ./mill_slab, so nothing is claimed for it. The desk has '
             'counted loads, colours and loss anew from the table.')
+IN_ROUNDED = 'In the rounded numbers: '
 ROUNDED = ('Weights were rounded up and sizes down to steps of {step}. Every claim but the plan\'s '
            'legality is about the rounded numbers; in the true ones the plan loses {true}.')
 
@@ -176,8 +177,12 @@ class Verdict:
     text: str
 
 
-def verdict(case: Case, program: str | None = None, **values: str) -> Verdict:
-    """The words of a case; `program` names another program than the one `./mill_slab` built."""
+def verdict(case: Case, program: str | None = None, rounded: bool = False,
+            **values: str) -> Verdict:
+    """The words of a case; `program` names another program than the one `./mill_slab` built.
+
+    Where weights were rounded the headline is about the rounded numbers.
+    """
     mood, headline, text = VERDICTS[case]
     if program is not None and case in OF_OTHERS:
         headline, text = OF_OTHERS[case]
@@ -185,6 +190,8 @@ def verdict(case: Case, program: str | None = None, **values: str) -> Verdict:
     elif program is not None:
         text = f'{text} {program} said so. {NO_CLAIM}'
     values['program'] = program or ''
+    if rounded:
+        headline = IN_ROUNDED + headline[0].lower() + headline[1:]
     return Verdict(case, mood, headline.format(**values), text.format(**values))
 
 

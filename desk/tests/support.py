@@ -89,8 +89,13 @@ class Outcome:
     """What a run of the desk gave."""
 
     status: int
-    out: str
+    text: str
     err: str
+
+    @property
+    def out(self) -> str:
+        """The output without its line breaks."""
+        return ' '.join(self.text.split())
 
 
 def desk(*words: object, program_path: Path | None = None) -> Outcome:
@@ -103,7 +108,7 @@ def desk(*words: object, program_path: Path | None = None) -> Outcome:
             status = main(arguments)
         except SystemExit as ended:
             status = int(ended.code or 0)
-    return Outcome(int(status), ' '.join(out.getvalue().split()), err.getvalue())
+    return Outcome(int(status), out.getvalue(), err.getvalue())
 
 
 def launched(*words: object, **more: Any) -> 'subprocess.CompletedProcess[str]':

@@ -1,0 +1,224 @@
+"""The picture of a plan: an SVG of 16:9 for a slide, slabs side by side.
+
+Past sixty slabs those that lose most are drawn, and the rest are told by size and count.
+"""
+
+import shutil
+import subprocess
+from collections.abc import Sequence
+from dataclasses import dataclass
+from pathlib import Path
+
+from mill_desk.numbers import percent, plural, show
+from mill_desk.palette import MOST_HUES, shades
+from mill_desk.plan import Slab, short_names, totals_of
+from mill_desk.problem import Problem
+from mill_desk.rendering import render
+from mill_desk.wording import Mood, Verdict
+
+WIDTH, HEIGHT = 1600, 900
+LEFT, RIGHT, HEAD = 88, 30, 134
+MOST_SLABS = 60
+MOST_ROWS = 20
+
+
+@dataclass(frozen=True)
+class Block:
+    """An order, or the loss, on an upright slab."""
+
+    x: str
+    y: str
+    width: str
+    height: str
+    fill: str
+    tip: str
+    label: str = ''
+    is_upright: bool = False
+    middle_x: str = ''
+    middle_y: str = ''
+
+
+@dataclass(frozen=True)
+class Line:
+    """A size as a line, with its text where it has room."""
+
+    y: str
+    text: str
+
+
+@dataclass(frozen=True)
+class Name:
+    """The name of a slab below it."""
+
+    x: str
+    text: str
+    points: int
+
+
+@dataclass(frozen=True)
+class Entry:
+    """A colour of the key."""
+
+    x: int
+    y: int
+    fill: str
+    text: str
+
+
+@dataclass(frozen=True)
+class Frame:
+    """Where bars stand: pixels of a step of the unit, of a slab and of the gap."""
+
+    problem: Problem
+    bottom: int
+    right: int
+    count: int
+
+    @property
+    def foot(self) -> int:
+        """The line that slabs stand on."""
+        return HEIGHT - self.bottom
+
+    def height(self, value: object) -> float:
+        """The pixels of an amount."""
+        top = self.problem.sizes[-1]
+        return float(value / top) * (self.foot - HEAD)  # type: ignore[operator]
+
+    @property
+    def pitch(self) -> float:
+        """From one slab to the next."""
+        return min(120.0, (WIDTH - LEFT - self.right) / max(1, self.count))
+
+    @property
+    def width(self) -> float:
+        """Of a slab."""
+        return self.pitch - max(1.0, min(12.0, self.pitch * 0.16))
+
+
+def slide(problem: Problem, slabs: Sequence[Slab], verdict: Verdict) -> str:
+    """The text of the picture."""
+    drawn = sorted(slabs, key=lambda slab: (-slab.loss, slab.number))[:MOST_SLABS]
+    drawn.sort(key=lambda slab: (-(slab.size or 0), -slab.loss, slab.number))
+    chosen = {slab.number for slab in drawn}
+    rest = [slab for slab in slabs if slab.number not in chosen]
+    keyed = len(problem.colours) <= MOST_HUES
+    entries = key_of(problem) if keyed else []
+    rows = 1 + max((entry.y for entry in entries), default=-1)
+    frame = Frame(problem, 62 + 27 * rows if keyed else 62, 330 if rest else RIGHT, len(drawn))
+    sums = totals_of(slabs)
+    return render('picture.svg', width=WIDTH, height=HEIGHT, left=LEFT, frame=frame,
+                  title=f'{clipped(problem.name, 46)}: {plural(len(problem.orders), "order")} on '
+                        f'{plural(len(slabs), "slab")}',
+                  lost=f'{problem.amount(sums.loss)} lost', loses=sums.loss > 0,
+                  steel=f'of {problem.amount(sums.steel)} of steel '
+                        f'({percent(sums.loss, sums.steel)}).',
+                  settled=verdict.mood is Mood.SETTLED,
+                  headline=clipped(verdict.headline, 80), lines=lines_of(frame), entries=entries,
+                  blocks=blocks_of(frame, drawn), names=names_of(frame, drawn),
+                  rest=rest_of(problem, rest), rest_count=len(rest), foot=frame.foot)
+
+
+def clipped(text: str, most: int) -> str:
+    """The text, cut where it would run out of the picture."""
+    return text if len(text) <= most else text[:most - 2] + '..'
+
+
+def lines_of(frame: Frame) -> list[Line]:
+    """The sizes, the largest first; a text that would touch the one above is left out."""
+    lines: list[Line] = []
+    last = None
+    for size in reversed(frame.problem.sizes):
+        y = frame.foot - frame.height(size)
+        has_room = last is None or y - last > 18
+        last = y if has_room else last
+        lines.append(Line(f'{y:.1f}', show(size) if has_room else ''))
+    return lines
+
+
+def blocks_of(frame: Frame, slabs: Sequence[Slab]) -> list[Block]:
+    """The orders and losses of the slabs."""
+    problem, tint = frame.problem, shades(frame.problem)
+    short = short_names([order.id for order in problem.orders])
+    blocks = []
+    for place, slab in enumerate(slabs):
+        x, y = LEFT + place * frame.pitch, float(frame.foot)
+        for order in slab.orders:
+            high = frame.height(order.weight)
+            y -= high
+            tip = f'{order.id}: {problem.amount(order.weight)}, {problem.colours[order.colour]}'
+            label, is_upright = label_of(frame, high, (order.id, short[order.id]))
+            blocks.append(block(frame, x, y, high, tint[order.colour], tip, label, is_upright))
+        if slab.loss:
+            high = frame.height(slab.loss)
+            tip = f'lost: {problem.amount(slab.loss)}'
+            blocks.append(block(frame, x, y - high, high, 'url(#lost)', tip))
+    return blocks
+
+
+def block(frame: Frame, x: float, y: float, high: float, fill: str, tip: str, label: str = '',
+          is_upright: bool = False) -> Block:
+    """A block with its text in the middle."""
+    turn = (4.6, 0.0) if is_upright else (0.0, 4.6)
+    return Block(f'{x:.1f}', f'{y:.1f}', f'{frame.width:.1f}', f'{high:.1f}', fill, tip, label,
+                 is_upright, f'{x + frame.width / 2 + turn[0]:.1f}',
+                 f'{y + high / 2 + turn[1]:.1f}')
+
+
+def label_of(frame: Frame, high: float, texts: Sequence[str]) -> tuple[str, bool]:
+    """The longest text that has room, and whether it stands upright."""
+    for text in texts:
+        if high > 15 and frame.width > 7.9 * len(text) + 4:
+            return text, False
+        if frame.width > 13 and high > 7.9 * len(text) + 6:
+            return text, True
+    return '', False
+
+
+def names_of(frame: Frame, slabs: Sequence[Slab]) -> list[Name]:
+    """The names of the slabs, where they have room."""
+    names = []
+    for place, slab in enumerate(slabs):
+        points = min(14, int(1.6 * frame.width / max(1, len(slab.name))))
+        if points >= 8:
+            middle = LEFT + place * frame.pitch + frame.width / 2
+            names.append(Name(f'{middle:.1f}', slab.name, points))
+    return names
+
+
+def key_of(problem: Problem) -> list[Entry]:
+    """The colours, in as many rows as they need; `y` is the row."""
+    tint = shades(problem)
+    entries: list[Entry] = []
+    x, y = LEFT - 8, 0
+    for fill, text in [*((tint[colour], name) for colour, name in problem.colours.items()),
+                       ('url(#lost)', 'lost')]:
+        wide = 50 + int(9.4 * len(text))
+        if x + wide > WIDTH - RIGHT and x > LEFT:
+            x, y = LEFT - 8, y + 1
+        entries.append(Entry(x, y, fill, text))
+        x += wide
+    return entries
+
+
+def rest_of(problem: Problem, slabs: Sequence[Slab]) -> list[str]:
+    """The slabs that aren't drawn, by size and count; at most twenty lines."""
+    lines = []
+    for size in reversed(problem.sizes):
+        here = [slab for slab in slabs if slab.size == size]
+        if here:
+            lines.append(f'{len(here)} of {problem.amount(size)}')
+    if len(lines) > MOST_ROWS:
+        lines = lines[:MOST_ROWS - 1] + [f'and {len(lines) - MOST_ROWS + 1} more sizes']
+    return lines
+
+
+def write_png(svg: Path, png: Path) -> bool:
+    """Makes a PNG of the picture where rsvg-convert is installed; says whether it did."""
+    tool = shutil.which('rsvg-convert')
+    if tool is None:
+        return False
+    made = subprocess.run([tool, '-w', str(WIDTH), '-o', str(png), str(svg)],
+                          capture_output=True, check=False)
+    if made.returncode != 0:
+        png.unlink(missing_ok=True)
+    return made.returncode == 0

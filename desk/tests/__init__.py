@@ -1,0 +1,1 @@
+"""Tests of the desk. `desk/test` runs them; pytest finds them too."""

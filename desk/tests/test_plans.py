@@ -1,0 +1,276 @@
+"""Plans from a table: the files, what is said of them, and what is refused."""
+
+import csv
+import io
+
+from mill_desk import rendering, workbook
+from mill_desk.program import hashed
+from tests.support import (EXAMPLES, STAND_IN, InFolder, desk, each, needs, spread,
+                           working_in)
+
+SHEET = 'Order,Weight t,Colour\nA,7,red\nB,8,blue\nC,5,red\n'
+CHECKED = 'Order;Slab\nA;{}\nB;{}\nC;{}\n'
+OTHER = (f'{STAND_IN} said so. That program wasn\'t built by ./mill_slab, so nothing is claimed '
+         'for it. The desk has counted loads, colours and loss anew from the table.')
+
+
+class Plans(InFolder):
+    """`desk plan`."""
+
+    def plan(self, *words: object) -> str:
+        """Plans the small sheet; answers with what is said."""
+        path = self.write('orders.csv', SHEET)
+        outcome = desk('plan', path, '--sizes', '12; 13', '--out', self.folder / 'plan', *words)
+        self.assertEqual((outcome.status, outcome.err), (0, ''))
+        return outcome.out
+
+    def test_the_files(self) -> None:
+        self.plan()
+        names = {entry.name for entry in (self.folder / 'plan').iterdir()}
+        wanted = {'instance.txt', 'answer.txt', 'plan.csv'}
+        wanted |= {'plan.xlsx'} if workbook.is_installed() else set()
+        wanted |= {'plan.html', 'plan.svg'} if rendering.is_installed() else set()
+        self.assertEqual(names - {'plan.png'}, wanted)
+        self.assertEqual((self.folder / 'plan' / 'instance.txt').read_text(),
+                         '2 12 13\n2\n3\n7 2\n8 1\n5 2\n')
+        self.assertEqual((self.folder / 'plan' / 'answer.txt').read_text(),
+                         'optimal\nloss 4\nplan 1 2 1\nend\n')
+
+    def test_the_csv_has_what_the_plan_says(self) -> None:
+        self.plan()
+        raw = (self.folder / 'plan' / 'plan.csv').read_bytes()
+        self.assertEqual(raw.decode('utf-8-sig'), (
+            'order,weight (t),colour,slab,slab size (t),slab loss (t)\r\n'
+            'A,7,red,1,12,0\r\nB,8,blue,2,12,4\r\nC,5,red,1,12,0\r\n'))
+
+    def test_what_is_said(self) -> None:
+        said = self.plan()
+        self.assertTrue(said.startswith('Read 3 orders of 2 colours, together 20 t; the lightest'))
+        self.assertIn(f'{STAND_IN} says that no legal plan loses less than 4 t.', said)
+        self.assertIn('2 slabs, 1 of them loses something; 24 t of steel, 16.67% of it lost.',
+                      said)
+        self.assertIn('Written to ', said)
+
+    def test_proved_is_verified(self) -> None:
+        said = self.plan('--prove')
+        self.assertIn('It says too that its checker read the proof,', said)
+        self.assertIn('log 1 ', (self.folder / 'plan' / 'answer.txt').read_text())
+
+    def test_rounding_shows_the_true_loss_beside(self) -> None:
+        path = self.write('orders.csv', 'Order,Weight,Colour\nA,6.4,red\nB,5.3,red\n')
+        outcome = desk('plan', path, '--sizes', '13.9', '--step', '1', '--round-up', '--out',
+                       self.folder / 'plan')
+        self.assertIn('In the rounded numbers: the plan loses nothing, so none is better.',
+                      outcome.out)
+        self.assertIn('Weights were rounded up and sizes down to steps of 1. Every claim but the '
+                      'plan\'s legality is about the rounded numbers; in the true ones the plan '
+                      'loses 2.2.', outcome.out)
+
+    def test_the_default_folder_is_named_after_the_orders(self) -> None:
+        self.write('orders.csv', SHEET)
+        with working_in(self.folder):
+            outcome = desk('plan', 'orders.csv', '--sizes', '13')
+        self.assertIn('Written to orders-plan:', outcome.out)
+        self.assertTrue((self.folder / 'orders-plan' / 'plan.csv').exists())
+
+    def test_a_folder_of_others_is_refused(self) -> None:
+        target = self.folder / 'mine'
+        target.mkdir()
+        (target / 'thesis.txt').write_text('x')
+        path = self.write('orders.csv', SHEET)
+        outcome = desk('plan', path, '--sizes', '13', '--out', target)
+        self.assertEqual((outcome.status, outcome.err), (
+            2, f'desk: --out {target}: the folder holds other files (thesis.txt); name another '
+            '--out\n'))
+        self.assertEqual([entry.name for entry in target.iterdir()], ['thesis.txt'])
+
+    def test_a_second_run_takes_the_place_of_the_first(self) -> None:
+        self.plan('--prove')
+        (self.folder / 'plan' / 'compare.html').write_text('of an earlier run')
+        self.plan()
+        self.assertFalse((self.folder / 'plan' / 'compare.html').exists())
+        self.assertNotIn('log', (self.folder / 'plan' / 'answer.txt').read_text())
+        self.assertEqual(sorted(entry.name for entry in self.folder.iterdir()),
+                         ['orders.csv', 'plan'])
+
+    def test_the_user_s_workbook_is_never_written_to(self) -> None:
+        before = hashed((EXAMPLES / 'orders.csv').read_bytes())
+        outcome = desk('plan', EXAMPLES / 'orders.csv', '--nodes', '50', '--out',
+                       self.folder / 'plan')
+        self.assertEqual(outcome.status, 4)
+        self.assertEqual(hashed((EXAMPLES / 'orders.csv').read_bytes()), before)
+
+    @needs('openpyxl')
+    def test_text_that_begins_with_an_equals_sign_is_text_in_the_workbook(self) -> None:
+        import openpyxl
+        path = self.write('orders.csv', 'Order,Weight,Colour\n=1+1,7,=A1\n+2,5,#N/A\n007,5,1e5\n')
+        outcome = desk('plan', path, '--sizes', '13', '--colours-per-slab', '3', '--out',
+                       self.folder / 'plan')
+        self.assertEqual((outcome.status, outcome.err), (0, ''))
+        sheet = openpyxl.load_workbook(self.folder / 'plan' / 'plan.xlsx')['plan']
+        cells = [(cell.value, cell.data_type) for row in sheet['A2:C4'] for cell in row
+                 if cell.column != 2]
+        self.assertEqual(cells, [('=1+1', 's'), ('=A1', 's'), ('+2', 's'), ('#N/A', 's'),
+                                 ('007', 's'), ('1e5', 's')])
+
+
+FAULTS: dict[str, tuple[str, str]] = {
+    'an order twice': (CHECKED.format(1, 1, 1) + 'A;2\n', 'cell A5: the order id "A" stands in '
+                       'row 2 too; an order goes on one slab'),
+    'an order of others': (CHECKED.format(1, 1, 1) + 'Z;2\n',
+                           'cell A5: "Z" is none of the orders'),
+    'an order missing': ('Order;Slab\nA;1\n', 'no row has order "B", "C"; each order goes on one '
+                         'slab'),
+    'no slab': (CHECKED.format(1, '', 1), 'cell B3: no slab of order "B" is given'),
+    'no column of slabs': ('Order;Where\nA;1\n', 'row 1: no column is headed as the slab; name it '
+                           'by --slab "HEADER"; the headers are: "Order", "Where"'),
+}
+
+
+@spread
+class Checks(InFolder):
+    """`desk check`."""
+
+    def check(self, plan: str, *words: object) -> tuple[int, str]:
+        """Judges a plan of the small sheet."""
+        orders, path = self.write('orders.csv', SHEET), self.write('mine.csv', plan)
+        outcome = desk('check', orders, path, '--sizes', '12; 13', '--out', self.folder / 'check',
+                       *words)
+        return outcome.status, outcome.out + outcome.err
+
+    def test_a_legal_plan(self) -> None:
+        status, said = self.check(CHECKED.format('left', 'right', 'left'))
+        self.assertEqual(status, 0)
+        self.assertIn(f'{STAND_IN} says that the plan is legal and loses 4 t.', said)
+
+    def test_a_heavy_slab_with_its_rows(self) -> None:
+        status, said = self.check(CHECKED.format('S1', 'S1', 'S2'))
+        self.assertEqual(status, 8)
+        self.assertIn('Slab S1 weighs 15 t, more than 13 t. So the plan isn\'t legal. Its orders: '
+                      f'row 2, A: 7 t, red; row 3, B: 8 t, blue. {OTHER}', said)
+
+    def test_a_colourful_slab_with_the_colour_of_each(self) -> None:
+        status, said = self.check(CHECKED.format('S2', 'S1', 'S1'), '--colours-per-slab', '1')
+        self.assertEqual(status, 8)
+        self.assertIn('Slab S1 has 2 colours; at most 1 colour may share a slab. So the plan '
+                      'isn\'t legal. Its orders: row 3, B: 8 t, blue; row 4, C: 5 t, red. '
+                      f'{OTHER}', said)
+
+    def test_further_slabs_are_told_as_the_desk_s_own_count(self) -> None:
+        orders = self.write('orders.csv', 'Order,Weight,Colour\nA,7,x\nB,7,x\nC,7,x\nD,7,x\n')
+        plan = self.write('mine.csv', 'Order,Slab\nA,1\nB,1\nC,2\nD,2\n')
+        outcome = desk('check', orders, plan, '--sizes', '12', '--out', self.folder / 'check')
+        self.assertIn('The desk\'s own count finds 2 slabs that aren\'t legal: 1 (weighs 14), 2 '
+                      '(weighs 14).', outcome.out)
+
+    @each(FAULTS)
+    def test_a_plan_to_mend(self, row: tuple[str, str]) -> None:
+        plan, message = row
+        status, said = self.check(plan)
+        self.assertEqual(status, 3)
+        self.assertTrue(said.endswith(f'desk: mine.csv is to be mended:\n  {message}\n'), said)
+        self.assertFalse((self.folder / 'check').exists())
+
+    def test_a_slab_that_is_heavy_in_rounded_numbers_alone(self) -> None:
+        status, said = self.check(CHECKED.format(1, 2, 1), '--step', '5', '--round-up')
+        self.assertEqual(status, 8)
+        self.assertIn('In the rounded numbers: slab 1 weighs 15 t, more than 10 t.', said)
+
+    def test_the_example_with_a_fault(self) -> None:
+        outcome = desk('check', EXAMPLES / 'orders.csv', EXAMPLES / 'plan-with-a-fault.csv',
+                       '--out', self.folder / 'check')
+        self.assertEqual(outcome.status, 8)
+        self.assertIn('Slab B10 has 3 colours; at most 2 colours may share a slab.', outcome.out)
+        self.assertIn('SO-48212/20: 3 t, P265GH', outcome.out)
+
+
+@needs('jinja2')
+class Compares(InFolder):
+    """`desk compare`."""
+
+    def compare(self, first: str, second: str) -> tuple[int, str]:
+        """Compares two plans of the small sheet."""
+        orders = self.write('orders.csv', SHEET)
+        plans = [self.write('one.csv', first), self.write('two.csv', second)]
+        outcome = desk('compare', orders, *plans, '--sizes', '12; 13', '--out',
+                       self.folder / 'compare')
+        self.assertEqual(outcome.err, '')
+        return outcome.status, outcome.out
+
+    def test_which_loses_less(self) -> None:
+        status, said = self.compare(CHECKED.format(1, 2, 3), CHECKED.format('a', 'b', 'a'))
+        self.assertEqual(status, 0)
+        self.assertIn('two.csv loses 12 t less. one.csv: 16 t on 3 slabs. two.csv: 4 t on 2 '
+                      'slabs. Both plans were judged legal by check.', said)
+        page = (self.folder / 'compare' / 'compare.html').read_text()
+        self.assertIn('1 slab the same in both, 2 orders on slabs that differ', page)
+
+    def test_the_same(self) -> None:
+        _, said = self.compare(CHECKED.format(1, 2, 1), CHECKED.format('a', 'b', 'a'))
+        self.assertIn('Both lose the same.', said)
+
+    def test_one_that_is_not_legal(self) -> None:
+        status, said = self.compare(CHECKED.format(1, 1, 2), CHECKED.format('a', 'b', 'a'))
+        self.assertEqual(status, 8)
+        self.assertIn('one.csv: Slab 1 weighs 15 t, more than 13 t.', said)
+        self.assertFalse((self.folder / 'compare').exists())
+
+
+class Others(InFolder):
+    """`desk show`, `desk what-if` and `desk table`."""
+
+    @needs('jinja2')
+    def test_show(self) -> None:
+        instance = self.write('three.txt', '1 4\n3\n3\n1 1\n1 2\n2 3\n')
+        answer = self.write('answer.txt', 'optimal\nloss 4\nplan 3 1 3\nend\n')
+        outcome = desk('show', instance, answer, '--out', self.folder / 'shown')
+        self.assertEqual((outcome.status, outcome.err), (0, ''))
+        self.assertIn('says that the plan is legal and loses 4.', outcome.out)
+        names = sorted(entry.name for entry in (self.folder / 'shown').iterdir())
+        self.assertEqual(names, ['plan.html', 'plan.svg'])
+
+    @needs('jinja2')
+    def test_show_of_an_infeasible_answer_names_every_heavy_order(self) -> None:
+        instance = self.write('three.txt', '1 4\n1\n3\n5 1\n1 1\n9 1\n')
+        answer = self.write('answer.txt', 'infeasible\norder 1\nend\n')
+        outcome = desk('show', instance, answer, '--out', self.folder / 'shown')
+        self.assertEqual(outcome.status, 0)
+        self.assertIn('Order 1 weighs 5, more than the largest size 4. So there is no legal plan. '
+                      'Heavier than the largest size: 1 5; 3 9.', outcome.out)
+
+    def test_what_if(self) -> None:
+        path = self.write('orders.csv', SHEET)
+        outcome = desk('what-if', path, '--sizes', '12; 13', '--colours-per-slab', '1-2',
+                       '--add-size', '8', '--out', self.folder / 'what-if')
+        self.assertEqual((outcome.status, outcome.err), (0, ''))
+        text = (self.folder / 'what-if' / 'what-if.csv').read_text('utf-8-sig')
+        rows = [row[:6] for row in csv.reader(text.splitlines())]
+        self.assertEqual(rows, [
+            ['sizes', 'colours a slab', 'loss', 'of the steel', 'slabs', 'what is proved'],
+            ['as given', '1', '4', '16.67%', '2', 'the program says optimal'],
+            ['as given', '2', '4', '16.67%', '2', 'the program says optimal'],
+            ['8 added', '1', '0', '0.00%', '2', 'the program says optimal'],
+            ['8 added', '2', '0', '0.00%', '2', 'the program says optimal']])
+
+    def test_what_if_with_wrong_words(self) -> None:
+        path = self.write('orders.csv', SHEET)
+        for words, message in ((('--colours-per-slab', '3-2'), '"3-2" must be as 2, 1-4 or 1,3'),
+                               (('--add-size', 'x'), '"x" must be a number above 0')):
+            outcome = desk('what-if', path, '--sizes', '13', *words)
+            self.assertEqual(outcome.status, 2)
+            self.assertIn(message, outcome.err)
+
+    def test_table(self) -> None:
+        paths = [self.write('three.txt', '1 4\n3\n3\n1 1\n1 2\n2 3\n'),
+                 self.write('heavy.txt', '1 4\n1\n1\n5 1\n'), self.write('bad.txt', '1 x\n')]
+        outcome = desk('table', *paths)
+        self.assertEqual((outcome.status, outcome.err), (0, ''))
+        rows = list(csv.reader(io.StringIO(outcome.text)))
+        self.assertEqual(rows[0][:8], ['instance', 'n', 'sizes', 'p', 'status', 'loss', 'spent',
+                                       'seconds'])
+        self.assertEqual([row[1:7] for row in rows[1:]], [
+            ['3', '1', '2', '0', '4', ''], ['1', '1', '2', '1', '', ''],
+            ['', '', '2', '3', '', '']])
+        self.assertEqual([row[8:9] + row[10:11] + row[12:] for row in rows[1:]], [
+            ['8', 'verified loss 4', ''], ['', '', 'infeasible order 1 end'],
+            ['', '', 'refused instance byte 2']])

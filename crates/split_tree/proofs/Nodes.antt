@@ -1,6 +1,6 @@
 -- What a node keeps: its path is no longer than the orders, and has no more groups than numbers.
-use Rattle.std.proofs.Common.{ℕ, suc, ◌-◌, ◌≤◌, ◌≡◌, List, [], ◌∷◌, length, ◌++◌, map, leb, refl}
-use Rattle.std.proofs.Common.{sym, ap, ◌∙◌, arith, leb-true, Bool, true, false, IsTrue, ◌↔◌}
+use Rattle.std.proofs.Common.{ℕ, suc, ◌-◌, ◌≤◌, ◌≡◌, List, [], ◌∷◌, length, ◌++◌, map, refl}
+use Rattle.std.proofs.Common.{sym, ap, ◌∙◌, arith, Bool, true, false, IsTrue, ◌↔◌}
 use Rattle.std.proofs.lemmas.List.{length-map}
 use Rattle.std.proofs.lemmas.Result.{IfOk-weaker}
 use Rattle.std.specs.Prelude.{Result, IfOk}
@@ -12,7 +12,6 @@ use Rattle.mill_model.specs.Rank.{Placed, rank, starts_class_in}
 use Rattle.mill_model.specs.declared.order.Order.{Order}
 use Rattle.mill_model.specs.Tree.{next_new, last_number}
 use Rattle.mill_model.specs.declared.order.TheConstants.{MAX_ORDERS}
-use Rattle.list_laws.proofs.Tests.{and-left}
 use Rattle.mill_laws.proofs.Paths.{tree-bound, tree-length}
 use Rattle.mill_laws.proofs.TreeLaws.{each-leaf-is-a-plan}
 use Rattle.order_symmetry.specs.Ranked.{IsPlanOf, orders_of}

@@ -1,7 +1,8 @@
 use Rattle.std.proofs.Common.{◌<◌, ◌≤◌, length, rules}
 use Rattle.mill_model.specs.declared.order.TheConstants.{MAX_ORDERS}
 use Rattle.split_tree.proofs.Nodes.{path-short, path-long}
-use Rattle.split_tree.proofs.Walk.{empty-is, IsOpenSlab-empty, walk-number, walk-fits, walk-more}
+use Rattle.split_tree.proofs.Grown.{empty-is, IsOpenSlab-empty}
+use Rattle.split_tree.proofs.Walk.{walk-number, walk-fits, walk-more}
 use Rattle.split_tree.proofs.node.NodeState.of.Goals as goal
 
 pub overflow_cast-rank : goal.overflow_cast-rank

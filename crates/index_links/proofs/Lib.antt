@@ -1,0 +1,4 @@
+pub mod LinkedLists
+pub mod Relinked
+pub mod Moved
+pub mod Views

@@ -1,0 +1,24 @@
+use Rattle.std.proofs.Common.{List, ℕ, None, ◌≡◌, ◌<◌, ◌∙◌, length, get_or, sym, subst, ap, arith}
+use Rattle.std.proofs.Common.{rules}
+use Rattle.std.proofs.lemmas.List.{get_or_default}
+use Rattle.index_links.specs.Lists.{AreSlabLists, after, list_at, plan_of, slab_in}
+use Rattle.index_links.proofs.Views.{are-lists, next-is, plan-is, slab-is}
+use Rattle.index_links.proofs.slab_links.SlabLinks.next.Goals as goal
+
+pub returns-clause-is : goal.returns-clause-is
+returns-clause-is c =
+    let count : length c.args.self.now ≡ length c.self.inside.chains.nexts.items =
+    sym (ap length c.self.view_is) ∙ c.self.invariant.lists_count in
+    let low : c.args.order < length c.self.inside.chains.nexts.items = omega (arith, c.requires, count) in
+    let at = c.index.ensures
+    ∙ get_or_default c.self.inside.chains.nexts.items c.args.order c.index.result.now None low in
+    subst (λ (lists : List (List ℕ)). c.index.result.now
+    ≡ after c.args.order (list_at lists (slab_in lists c.args.order)))
+    c.self.view_is (at ∙ next-is c.self.inside.chains.firsts.items c.self.inside.chains.nexts.items
+    c.self.inside.chains.previous.items c.self.inside.slabs.items _ c.self.invariant c.args.order low)
+
+pub returns-clause-kept : goal.returns-clause-kept
+returns-clause-kept c =
+    subst (λ (lists : List (List ℕ)). AreSlabLists lists) c.self.view_is
+    (are-lists c.self.inside.chains.firsts.items c.self.inside.chains.nexts.items
+    c.self.inside.chains.previous.items c.self.inside.slabs.items _ c.self.invariant)

@@ -5,3 +5,4 @@ pub mod OneColour
 pub mod Gains
 pub mod Least
 pub mod Groups
+pub mod LeftOut

@@ -1,15 +1,15 @@
-// Tables of the knapsack: the best prices of sets by load, one order at a time.
+// The best prices of sets of orders by load, one order at a time.
 
-ghost use Rattle.std.specs.Prelude.{◌≡◌, ℕ, List, Bool, true, ◌+◌, ◌-◌, ◌^◌, ◌<◌, ◌≤◌, ◌∷◌, leb};
-ghost use Rattle.std.specs.Prelude.{cond, length};
+ghost use Rattle.std.specs.Prelude.{◌≡◌, ℕ, List, Bool, true, ◌+◌, ◌-◌, ◌*◌, ◌^◌, ◌<◌, ◌≤◌, ◌⊎◌, ◌∷◌};
+ghost use Rattle.std.specs.Prelude.{[], cond, leb, length, slice_index_or, pos};
 ghost use Rattle.mill_model.specs.Sets.{holds};
 ghost use Rattle.set_minima.specs.Packs.{better, with_price, colour_at, IsNext};
-ghost use Rattle.log_checker.specs.Tables.{cell, found, IsNear, AreNear, IsSmall, no_place};
-ghost use Rattle.log_checker.specs.Stocked.{IsStocked, IsTableOf, IsRunOf, let_to, own_of, own_to};
+ghost use Rattle.set_minima.specs.Joins.{all_places};
+ghost use Rattle.least_slacks.specs.Cells.{cell, found, IsNear, AreNear, IsSmall};
+ghost use Rattle.least_slacks.specs.Later.{IsLater, IsTableOf, IsRunOf, HaveSame, let_to, joined_to};
+ghost use Rattle.least_slacks.specs.Later.{others_of};
 
-use crate::groups::has;
-use crate::items::Item;
-use crate::stock::Stock;
+use crate::later_orders::{Item, LaterOrders, has};
 
 /// Stands in a table where there is no set.
 pub(crate) const NOTHING: i64 = -4_611_686_018_427_387_904;
@@ -42,73 +42,99 @@ fn add_order(table: &mut [i64], weight: usize, price: i64)
     }
 }
 
+/// Betters one table, which begins at `at`, by the sets of the one at `from` with one order more.
+pub(crate) fn raise_cells(
+    tables: &mut [i64],
+    from: usize,
+    at: usize,
+    width: usize,
+    weight: usize,
+    price: i64,
+)
+    requires apart { from + width ≤ at }
+    requires inside { at + width ≤ length tables.old }
+    requires near { AreNear (2 ^ 59) tables.old }
+    requires price { IsSmall 20000000000 price }
+    ensures cells { (l : ℕ) → l < width → cell tables.new (at + l) ≡
+        cond (leb weight l)
+        (better (cell tables.old (at + l)) (with_price price (cell tables.old (from + (l - weight)))))
+        (cell tables.old (at + l)) }
+    ensures other { (i : ℕ) → i < at ⊎ at + width ≤ i →
+        slice_index_or tables.new i (pos 0) ≡ slice_index_or tables.old i (pos 0) }
+    ensures near { (n : ℕ) → AreNear n tables.old → AreNear (n + 20000000000) tables.new }
+{
+    for l in weight..width {
+        tables[at + l] = best_of(tables[at + l], tables[from + (l - weight)], price);
+    }
+}
+
 /// Lets the order of an item into a table.
-fn add_item(table: &mut [i64], stock: &Stock, item: Item)
-    requires stock { IsStocked stock.now }
-    requires here { item.place < length stock.now.rest.now }
+fn add_item(table: &mut [i64], later: &LaterOrders, item: Item)
+    requires later { IsLater later.now }
+    requires here { item.place < length later.now.rest.now }
     requires near { AreNear (2 ^ 59) table.old }
     ensures best { (before after : ℕ → Bool) → (own : List ℕ) → (k : ℕ) →
         IsNext before after item.place →
-        holds (colour_at stock.now.rest.now item.place) own ≡ true →
-        IsTableOf stock.now before own k (length table.old) (cell table.old) →
-        IsTableOf stock.now after own k (length table.old) (cell table.new) }
+        holds (colour_at later.now.rest.now item.place) own ≡ true →
+        IsTableOf later.now before own k (length table.old) (cell table.old) →
+        IsTableOf later.now after own k (length table.old) (cell table.new) }
     ensures near { (n : ℕ) → AreNear n table.old →
         AreNear (n + 20000000000) table.new }
 {
-    let weight = stock.rest[item.place].weight as usize;
-    add_order(table, weight, stock.prices[item.place]);
+    let weight = later.rest[item.place].weight as usize;
+    add_order(table, weight, later.prices[item.place]);
 }
 
 /// Lets the orders of a run into a table where its colour is paid for.
-pub(crate) fn add_run(table: &mut [i64], stock: &Stock, at: usize, end: usize)
-    requires stock { IsStocked stock.now }
+pub(crate) fn add_run(table: &mut [i64], later: &LaterOrders, at: usize, end: usize)
+    requires later { IsLater later.now }
     requires order { at ≤ end }
-    requires ends { end ≤ length stock.now.items.now }
+    requires ends { end ≤ length later.now.items.now }
     requires near { AreNear (2 ^ 58) table.old }
-    ensures best { (own : List ℕ) → (colour k : ℕ) →
-        IsRunOf stock.now own at end colour →
-        IsTableOf stock.now (let_to stock.now own at) (colour ∷ own) k
+    ensures best { (out : List ℕ) → (colour k : ℕ) →
+        IsRunOf later.now out at end colour →
+        IsTableOf later.now (let_to later.now out at) (colour ∷ []) k
         (length table.old) (cell table.old) →
-        IsTableOf stock.now (let_to stock.now own end) (colour ∷ own) k
+        IsTableOf later.now (let_to later.now out end) (colour ∷ []) k
         (length table.old) (cell table.new) }
     ensures near { (n : ℕ) → AreNear n table.old →
         AreNear (n + 20480000000000) table.new }
 {
     for t in at..end {
-        add_item(table, stock, stock.items[t]);
+        add_item(table, later, later.items[t]);
     }
 }
 
-/// Lets the order of an item into a table, where its colour is an own one.
-fn consider(table: &mut [i64], stock: &Stock, own: &[u16], t: usize)
-    requires stock { IsStocked stock.now }
-    requires here { t < length stock.now.items.now }
+/// Lets the order of an item into a table, where its colour was left out.
+fn consider(table: &mut [i64], later: &LaterOrders, out: &[u16], t: usize)
+    requires later { IsLater later.now }
+    requires here { t < length later.now.items.now }
     requires near { AreNear (2 ^ 59) table.old }
-    ensures best { (k : ℕ) →
-        IsTableOf stock.now (own_to stock.now own.now t) own.now k
+    ensures best { (own : List ℕ) → (k : ℕ) → HaveSame later.now own out.now →
+        IsTableOf later.now (joined_to later.now out.now t) own k
         (length table.old) (cell table.old) →
-        IsTableOf stock.now (own_to stock.now own.now (t + 1)) own.now k
+        IsTableOf later.now (joined_to later.now out.now (t + 1)) own k
         (length table.old) (cell table.new) }
     ensures near { (n : ℕ) → AreNear n table.old →
         AreNear (n + 20000000000) table.new }
 {
-    let item = stock.items[t];
-    if has(own, item.colour) {
-        add_item(table, stock, item);
+    let item = later.items[t];
+    if has(out, item.colour) {
+        add_item(table, later, item);
     }
 }
 
-/// Lets the orders of own colours into a table.
-pub(crate) fn add_own(table: &mut [i64], stock: &Stock, own: &[u16])
-    requires stock { IsStocked stock.now }
-    requires near { AreNear 0 table.old }
-    ensures best { (k : ℕ) →
-        IsTableOf stock.now no_place own.now k (length table.old) (cell table.old) →
-        IsTableOf stock.now (own_of stock.now own.now) own.now k (length table.old)
-        (cell table.new) }
-    ensures near { AreNear 20480000000000 table.new }
+/// Lets the orders of the colours that were left out into a table of a slab that has them.
+pub(crate) fn add_left_out(table: &mut [i64], later: &LaterOrders, out: &[u16])
+    requires later { IsLater later.now }
+    requires near { AreNear 300000000000000000 table.old }
+    ensures best { (own : List ℕ) → (k : ℕ) → HaveSame later.now own out.now →
+        IsTableOf later.now (others_of later.now out.now) own k
+        (length table.old) (cell table.old) →
+        IsTableOf later.now all_places own k (length table.old) (cell table.new) }
+    ensures near { AreNear 400000000000000000 table.new }
 {
-    for t in 0..stock.items.len() {
-        consider(table, stock, own, t);
+    for t in 0..later.items.len() {
+        consider(table, later, out, t);
     }
 }

@@ -1,22 +1,18 @@
-// Layers of the knapsack: tables of one width one after another, each with one colour more than the
-// one before.
+// Layers of tables of one width one after another: layer `t` has the sets of at most `t` colours.
 
-ghost use Rattle.std.specs.Prelude.{◌≡◌, ℕ, List, suc, ◌+◌, ◌-◌, ◌*◌, ◌^◌, ◌<◌, ◌≤◌, ◌⊎◌, ◌≢◌};
+ghost use Rattle.std.specs.Prelude.{◌≡◌, ℕ, List, [], suc, ◌+◌, ◌-◌, ◌*◌, ◌^◌, ◌<◌, ◌≤◌, ◌⊎◌, ◌≢◌};
 ghost use Rattle.std.specs.Prelude.{length, slice_index_or, pos};
 ghost use Rattle.std.specs.Int.{int_max};
-ghost use Rattle.mill_model.specs.Sets.{different};
-ghost use Rattle.set_minima.specs.Joins.{all_places};
-ghost use Rattle.log_checker.specs.Tables.{cell, AreNear, IsStretch, item_at};
-ghost use Rattle.log_checker.specs.Stocked.{IsStocked, IsTableOf, AreLayersOf, IsRunOf, let_to};
-ghost use Rattle.log_checker.specs.Stocked.{own_of};
+ghost use Rattle.least_slacks.specs.Cells.{cell, AreNear};
+ghost use Rattle.least_slacks.specs.Items.{IsStretch, item_at, no_place};
+ghost use Rattle.least_slacks.specs.Later.{IsLater, IsTableOf, AreLayersOf, IsRunOf, let_to};
+ghost use Rattle.least_slacks.specs.Later.{others_of};
 
-use crate::groups::has;
-use crate::items::Item;
-use crate::stock::Stock;
-use crate::table::add_run;
+use crate::best_prices::{add_run, raise_cells};
+use crate::later_orders::{Item, LaterOrders, has};
 
 /// Copies the layer that begins at `at` into a table.
-fn copy_layer(table: &mut [i64], tables: &[i64], at: usize)
+pub(crate) fn copy_layer(table: &mut [i64], tables: &[i64], at: usize)
     requires { at + length table.old ≤ length tables.now }
     ensures { (l : ℕ) → l < length table.old →
         slice_index_or table.new l (pos 0) ≡ slice_index_or tables.now (at + l) (pos 0) }
@@ -54,20 +50,26 @@ fn better_layer(tables: &mut [i64], table: &[i64], at: usize)
 
 /// Lets the orders of a run into layer `t`, over the sets that the layer below has for a colour
 /// less.
-fn raise_layer(tables: &mut [i64], table: &mut [i64], stock: &Stock, run: (usize, usize), t: usize)
-    requires stock { IsStocked stock.now }
+fn raise_by_run(
+    tables: &mut [i64],
+    table: &mut [i64],
+    later: &LaterOrders,
+    run: (usize, usize),
+    t: usize,
+)
+    requires later { IsLater later.now }
     requires above { 0 < t }
     requires inside { t * length table.old + length table.old ≤ length tables.old }
     requires order { run.0 ≤ run.1 }
-    requires ends { run.1 ≤ length stock.now.items.now }
+    requires ends { run.1 ≤ length later.now.items.now }
     requires near { AreNear (2 ^ 58) tables.old }
-    ensures best { (own : List ℕ) → (colour k : ℕ) →
-        IsRunOf stock.now own run.0 run.1 colour →
-        IsTableOf stock.now (let_to stock.now own run.0) own k (length table.old)
+    ensures best { (out : List ℕ) → (colour k : ℕ) →
+        IsRunOf later.now out run.0 run.1 colour →
+        IsTableOf later.now (let_to later.now out run.0) [] k (length table.old)
         (λ l. cell tables.old ((t - 1) * length table.old + l)) →
-        IsTableOf stock.now (let_to stock.now own run.0) own (suc k)
+        IsTableOf later.now (let_to later.now out run.0) [] (suc k)
         (length table.old) (λ l. cell tables.old (t * length table.old + l)) →
-        IsTableOf stock.now (let_to stock.now own run.1) own (suc k)
+        IsTableOf later.now (let_to later.now out run.1) [] (suc k)
         (length table.old) (λ l. cell tables.new (t * length table.old + l)) }
     ensures other { (i : ℕ) → i < t * length table.old ⊎
         t * length table.old + length table.old ≤ i →
@@ -76,34 +78,93 @@ fn raise_layer(tables: &mut [i64], table: &mut [i64], stock: &Stock, run: (usize
 {
     let width = table.len();
     copy_layer(table, tables, (t - 1) * width);
-    add_run(table, stock, run.0, run.1);
+    add_run(table, later, run.0, run.1);
     better_layer(tables, table, t * width);
 }
 
-/// Lets the orders of a run into all layers but the first, from the last down.
+/// The same for a run of one order, in one pass.
+fn raise_by_order(tables: &mut [i64], later: &LaterOrders, at: usize, width: usize, t: usize)
+    requires later { IsLater later.now }
+    requires above { 0 < t }
+    requires inside { t * width + width ≤ length tables.old }
+    requires here { at < length later.now.items.now }
+    requires near { AreNear (2 ^ 58) tables.old }
+    ensures best { (out : List ℕ) → (colour k : ℕ) →
+        IsRunOf later.now out at (at + 1) colour →
+        IsTableOf later.now (let_to later.now out at) [] k width
+        (λ l. cell tables.old ((t - 1) * width + l)) →
+        IsTableOf later.now (let_to later.now out at) [] (suc k) width
+        (λ l. cell tables.old (t * width + l)) →
+        IsTableOf later.now (let_to later.now out (at + 1)) [] (suc k) width
+        (λ l. cell tables.new (t * width + l)) }
+    ensures other { (i : ℕ) → i < t * width ⊎ t * width + width ≤ i →
+        slice_index_or tables.new i (pos 0) ≡ slice_index_or tables.old i (pos 0) }
+    ensures near { (n : ℕ) → AreNear n tables.old → AreNear (n + 20000000000) tables.new }
+{
+    let place = later.items[at].place;
+    let weight = later.rest[place].weight as usize;
+    let price = later.prices[place];
+    raise_cells(tables, (t - 1) * width, t * width, width, weight, price);
+}
+
+/// Lets the orders of a run into layer `t`.
+fn raise_layer(
+    tables: &mut [i64],
+    table: &mut [i64],
+    later: &LaterOrders,
+    run: (usize, usize),
+    t: usize,
+)
+    requires later { IsLater later.now }
+    requires above { 0 < t }
+    requires inside { t * length table.old + length table.old ≤ length tables.old }
+    requires order { run.0 ≤ run.1 }
+    requires ends { run.1 ≤ length later.now.items.now }
+    requires near { AreNear (2 ^ 58) tables.old }
+    ensures best { (out : List ℕ) → (colour k : ℕ) →
+        IsRunOf later.now out run.0 run.1 colour →
+        IsTableOf later.now (let_to later.now out run.0) [] k (length table.old)
+        (λ l. cell tables.old ((t - 1) * length table.old + l)) →
+        IsTableOf later.now (let_to later.now out run.0) [] (suc k)
+        (length table.old) (λ l. cell tables.old (t * length table.old + l)) →
+        IsTableOf later.now (let_to later.now out run.1) [] (suc k)
+        (length table.old) (λ l. cell tables.new (t * length table.old + l)) }
+    ensures other { (i : ℕ) → i < t * length table.old ⊎
+        t * length table.old + length table.old ≤ i →
+        slice_index_or tables.new i (pos 0) ≡ slice_index_or tables.old i (pos 0) }
+    ensures near { (n : ℕ) → AreNear n tables.old → AreNear (n + 20480000000000) tables.new }
+{
+    if run.1 == run.0 + 1 {
+        raise_by_order(tables, later, run.0, table.len(), t);
+    } else {
+        raise_by_run(tables, table, later, run, t);
+    }
+}
+
+/// Lets the orders of a colour into all layers but the first, from the last down.
 fn add_colour(
     tables: &mut [i64],
     table: &mut [i64],
-    stock: &Stock,
+    later: &LaterOrders,
     run: (usize, usize),
     layers: usize,
 )
-    requires stock { IsStocked stock.now }
-    requires shape { length tables.old ≡ layers * length table.old }
+    requires later { IsLater later.now }
+    requires shape { layers * length table.old ≤ length tables.old }
     requires layers { layers ≤ 9 }
     requires order { run.0 ≤ run.1 }
-    requires ends { run.1 ≤ length stock.now.items.now }
+    requires ends { run.1 ≤ length later.now.items.now }
     requires near { AreNear 200000000000000000 tables.old }
-    ensures best { (own : List ℕ) → (colour few : ℕ) → few ≡ different own →
-        IsRunOf stock.now own run.0 run.1 colour →
-        AreLayersOf stock.now (let_to stock.now own run.0) own few layers
+    ensures best { (out : List ℕ) → (colour : ℕ) →
+        IsRunOf later.now out run.0 run.1 colour →
+        AreLayersOf later.now (let_to later.now out run.0) layers
         (length table.old) tables.old →
-        AreLayersOf stock.now (let_to stock.now own run.1) own few layers
+        AreLayersOf later.now (let_to later.now out run.1) layers
         (length table.old) tables.new }
     ensures near { (n : ℕ) → AreNear n tables.old → AreNear (n + 184320000000000) tables.new }
 {
     for t in (1..layers).rev() {
-        raise_layer(tables, table, stock, run, t);
+        raise_layer(tables, table, later, run, t);
     }
 }
 
@@ -138,54 +199,54 @@ fn run_end(items: &[Item], at: usize) -> usize
     items.len()
 }
 
-/// Lets the orders of a colour into all layers but the first, where it isn't an own one.
+/// Lets the orders of a colour into all layers but the first, where it isn't left out.
 fn add_next(
     tables: &mut [i64],
     table: &mut [i64],
-    stock: &Stock,
-    own: &[u16],
+    later: &LaterOrders,
+    out: &[u16],
     run: (usize, usize),
     layers: usize,
 )
-    requires stock { IsStocked stock.now }
-    requires shape { length tables.old ≡ layers * length table.old }
+    requires later { IsLater later.now }
+    requires shape { layers * length table.old ≤ length tables.old }
     requires layers { layers ≤ 9 }
-    requires stretch { IsStretch stock.now.items.now run.0 run.1 }
+    requires stretch { IsStretch later.now.items.now run.0 run.1 }
     requires near { AreNear 200000000000000000 tables.old }
-    ensures best { (few : ℕ) → few ≡ different own.now →
-        AreLayersOf stock.now (let_to stock.now own.now run.0) own.now few layers
+    ensures best {
+        AreLayersOf later.now (let_to later.now out.now run.0) layers
         (length table.old) tables.old →
-        AreLayersOf stock.now (let_to stock.now own.now run.1) own.now few layers
+        AreLayersOf later.now (let_to later.now out.now run.1) layers
         (length table.old) tables.new }
     ensures near { (n : ℕ) → AreNear n tables.old → AreNear (n + 184320000000000) tables.new }
 {
-    if !has(own, stock.items[run.0].colour) {
-        add_colour(tables, table, stock, run, layers);
+    if !has(out, later.items[run.0].colour) {
+        add_colour(tables, table, later, run, layers);
     }
 }
 
-/// Lets all orders into layers that have those of own colours, one colour after another.
+/// Lets the orders of all colours that aren't left out into layers of the empty set, one colour
+/// after another.
 pub(crate) fn add_colours(
     tables: &mut [i64],
     table: &mut [i64],
-    stock: &Stock,
-    own: &[u16],
+    later: &LaterOrders,
+    out: &[u16],
     layers: usize,
 )
-    requires stock { IsStocked stock.now }
-    requires shape { length tables.old ≡ layers * length table.old }
+    requires later { IsLater later.now }
+    requires shape { layers * length table.old ≤ length tables.old }
     requires layers { layers ≤ 9 }
-    requires near { AreNear 20480000000000 tables.old }
-    ensures best { (few : ℕ) → few ≡ different own.now →
-        AreLayersOf stock.now (own_of stock.now own.now) own.now few layers
-        (length table.old) tables.old →
-        AreLayersOf stock.now all_places own.now few layers (length table.old) tables.new }
+    requires near { AreNear 0 tables.old }
+    ensures best {
+        AreLayersOf later.now no_place layers (length table.old) tables.old →
+        AreLayersOf later.now (others_of later.now out.now) layers (length table.old) tables.new }
     ensures near { AreNear 200000000000000000 tables.new }
 {
     let mut at = 0;
-    while at < stock.items.len() {
-        let end = run_end(stock.items, at);
-        add_next(tables, table, stock, own, (at, end), layers);
+    while at < later.items.len() {
+        let end = run_end(later.items, at);
+        add_next(tables, table, later, out, (at, end), layers);
         at = end;
     }
 }

@@ -1,0 +1,5 @@
+pub mod CellNumbers
+pub mod OneCell
+pub mod ItemsLetIn
+pub mod LayersRaised
+pub mod OrdersByColour

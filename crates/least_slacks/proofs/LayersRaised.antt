@@ -17,7 +17,7 @@ use Rattle.least_slacks.specs.Later.{AreLayers}
 use Rattle.least_slacks.specs.declared.later_orders.Item.{Item}
 use Rattle.least_slacks.proofs.CellNumbers.{near-wider, near-max, near-small}
 
-near-zero : (n : ℕ) → IsNear n (pos 0)
+pub near-zero : (n : ℕ) → IsNear n (pos 0)
 near-zero n = near-small n (pos 0) (omega (arith, ints), omega (arith, ints))
 
 -- How large the numbers get.
@@ -27,6 +27,15 @@ pub near-copied : (n at : ℕ) (tables table : List ℤ) →
     AreNear n tables → AreNear n table
 near-copied n at tables table e h l = elim (cases_lt l (length table)) [
   | inl b ↦ rw (e l b) (h (at + l))
+  | inr b ↦ rw (get_or_past table l (pos 0) b) (near-zero n)
+]
+
+-- the same, where only what is copied is near
+pub near-copied-from : (n at : ℕ) (tables table : List ℤ) →
+    ((l : ℕ) → l < length table → get_or table l (pos 0) ≡ get_or tables (at + l) (pos 0)) →
+    ((l : ℕ) → l < length table → IsNear n (get_or tables (at + l) (pos 0))) → AreNear n table
+near-copied-from n at tables table e h l = elim (cases_lt l (length table)) [
+  | inl b ↦ rw (e l b) (h l b)
   | inr b ↦ rw (get_or_past table l (pos 0) b) (near-zero n)
 ]
 

@@ -3,3 +3,4 @@ pub mod OneCell
 pub mod ItemsLetIn
 pub mod LayersRaised
 pub mod OrdersByColour
+pub mod LeastFromTable

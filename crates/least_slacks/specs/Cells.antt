@@ -1,6 +1,6 @@
 -- The numbers of a table: the best prices of sets by load. A very low number stands where there is
 -- no set.
-use Rattle.std.specs.Prelude.{ℕ, ◌≡◌, ◌⊎◌, cond, List, ℤ, pos, neg_ℤ, ◌-ℤ◌, ◌+ℤ◌, ◌≤ℤ◌, int_lt}
+use Rattle.std.specs.Prelude.{ℕ, ◌<◌, ◌⊎◌, cond, List, ℤ, pos, neg_ℤ, ◌-ℤ◌, ◌+ℤ◌, ◌≤ℤ◌, int_lt}
 use Rattle.std.specs.Prelude.{Option, Some, None, slice_index_or}
 
 -- - 2 ^ 62, and half of it: from there on a number stands for a set
@@ -21,6 +21,10 @@ IsNear n x =
 
 abbrev pub AreNear : ℕ → List ℤ → Type 0
 AreNear n table = (l : ℕ) → IsNear n (slice_index_or table l (pos 0))
+
+-- the same for the numbers before a place
+abbrev pub AreNearTo : ℕ → ℕ → List ℤ → Type 0
+AreNearTo n stop table = (l : ℕ) → l < stop → IsNear n (slice_index_or table l (pos 0))
 
 -- a number lies between - n and n
 abbrev pub IsSmall : ℕ → ℤ → Type 0

@@ -2,3 +2,4 @@ pub mod Cells
 pub mod Items
 pub mod Later
 pub mod Keys
+pub mod Limits

@@ -127,12 +127,12 @@ fn consider(table: &mut [i64], later: &LaterOrders, out: &[u16], t: usize)
 /// Lets the orders of the colours that were left out into a table of a slab that has them.
 pub(crate) fn add_left_out(table: &mut [i64], later: &LaterOrders, out: &[u16])
     requires later { IsLater later.now }
-    requires near { AreNear 300000000000000000 table.old }
+    requires near { AreNear 200000000000000000 table.old }
     ensures best { (own : List ℕ) → (k : ℕ) → HaveSame later.now own out.now →
         IsTableOf later.now (others_of later.now out.now) own k
         (length table.old) (cell table.old) →
         IsTableOf later.now all_places own k (length table.old) (cell table.new) }
-    ensures near { AreNear 400000000000000000 table.new }
+    ensures near { AreNear 300000000000000000 table.new }
 {
     for t in 0..later.items.len() {
         consider(table, later, out, t);

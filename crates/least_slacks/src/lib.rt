@@ -9,6 +9,8 @@ mod colour_layers;
 mod key;
 mod later_orders;
 mod least_slack;
+mod limits;
 
 pub use key::{Key, NO_COLOUR};
-
+pub use least_slack::{SlackTables, least_slacks};
+pub use limits::SlabLimits;

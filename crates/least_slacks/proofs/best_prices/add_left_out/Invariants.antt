@@ -11,5 +11,5 @@ invariant-loop-t l = record {
       (length l.initial.table) (cell l.initial.table) →
       IsTableOf l.later (joined_to l.later l.out l.t) own k
       (length l.initial.table) (cell l.table);
-  near : AreNear (300000000000000000 + l.t * 20000000000) l.table;
+  near : AreNear (200000000000000000 + l.t * 20000000000) l.table;
 }

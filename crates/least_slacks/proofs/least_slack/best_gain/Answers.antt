@@ -29,11 +29,11 @@ loop-l-preserved c =
           (c.loop-l.invariant.top allowed own k rest prices p)
           (p c.loop-l.l (omega arith))));
       near =
-          near-wider (400000000000000000 + c.loop-l.l * 20000000000 + 20000000000)
-          (400000000000000000 + (c.loop-l.l + 1) * 20000000000) c.best_of-best.result
-          (omega arith) (n (400000000000000000 + c.loop-l.l * 20000000000)
+          near-wider (300000000000000000 + c.loop-l.l * 20000000000 + 20000000000)
+          (300000000000000000 + (c.loop-l.l + 1) * 20000000000) c.best_of-best.result
+          (omega arith) (n (300000000000000000 + c.loop-l.l * 20000000000)
           c.loop-l.invariant.near
-          (near-wider 400000000000000000 (400000000000000000 + c.loop-l.l * 20000000000)
+          (near-wider 300000000000000000 (300000000000000000 + c.loop-l.l * 20000000000)
           (get_or c.args.table.now c.loop-l.l (pos 0)) (omega arith)
           (c.requires.near c.loop-l.l)));
     })
@@ -48,6 +48,6 @@ returns-clause-top c allowed own k rest prices p =
 
 pub returns-clause-near : goal.returns-clause-near
 returns-clause-near c =
-    near-wider (400000000000000000 + c.loop-l.l * 20000000000) 576460752303423488
+    near-wider (300000000000000000 + c.loop-l.l * 20000000000) 576460752303423488
     (to_z w64 c.loop-l.best-bits) (omega (arith, c.loop-l.auto.l-end, c.requires.few))
     c.loop-l.invariant.near

@@ -12,5 +12,5 @@ invariant-loop-l l = record {
       IsTable allowed own k rest prices (length l.table) (cell l.table) →
       IsTop (Packed allowed own k rest 0 l.l)
       (gain (λ i. slice_index l.charges i) l.load rest prices) (found l.best);
-  near : IsNear (400000000000000000 + l.l * 20000000000) l.best;
+  near : IsNear (300000000000000000 + l.l * 20000000000) l.best;
 }

@@ -1,15 +1,15 @@
 -- The greatest gain of the sets that may join a slab is its least slack with the other sign, and as
 -- the gain of a set it isn't large.
-use Rattle.std.proofs.Common.{ℕ, suc, ◌+◌, ◌*◌, ◌≤◌, ◌≡◌, List, length, get_or, ℤ, pos, neg_ℤ}
-use Rattle.std.proofs.Common.{◌≤ℤ◌, Option, Some, None, refl, All, arith, Bool, true, false, int_lt}
-use Rattle.std.proofs.Common.{inl, inr, append-nil}
+use Rattle.std.proofs.Common.{ℕ, suc, ◌+◌, ◌*◌, ◌≤◌, ◌≡◌, List, length, get_or, ℤ, pos, neg_ℤ, ◌≤ℤ◌}
+use Rattle.std.proofs.Common.{Option, Some, None, refl, All, arith, Bool, true, false, int_lt, inl}
+use Rattle.std.proofs.Common.{inr, append-nil}
 use Rattle.std.proofs.lemmas.Int.{ints}
 use Rattle.std.proofs.lemmas.List.{get_or_past}
 use Rattle.std.proofs.lemmas.Bool.{cases_lt}
-use Rattle.mill_model.specs.Sets.{different}
+use Rattle.list_laws.specs.Sets.{different}
 use Rattle.mill_model.specs.Prices.{least_slack}
 use Rattle.mill_model.specs.declared.order.Order.{Order}
-use Rattle.mill_laws.proofs.Slacks.{nothing, nothing-chosen, nothing-length}
+use Rattle.list_laws.proofs.Lists.{nothing, nothing-chosen, nothing-length}
 use Rattle.set_minima.specs.Packs.{IsTop}
 use Rattle.set_minima.specs.Joins.{gain, Joins, IsSlab, all_places, opposite}
 use Rattle.set_minima.proofs.Gains.{gain-within}

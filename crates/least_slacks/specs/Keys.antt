@@ -1,8 +1,8 @@
 -- What a key says of a group, and what tables serve it.
-use Rattle.std.specs.Prelude.{ℕ, ◌+◌, ◌*◌, ◌<◌, ◌≤◌, ◌≡◌, List, [], ℤ, pos, length}
-use Rattle.std.specs.Prelude.{slice_index, slice_index_or}
+use Rattle.std.specs.Prelude.{ℕ, ◌+◌, ◌*◌, ◌<◌, ◌≤◌, ◌≡◌, List, [], ℤ, pos, length, slice_index}
+use Rattle.std.specs.Prelude.{slice_index_or}
 use Rattle.mill_model.specs.Prices.{least_slack}
-use Rattle.mill_model.specs.Sets.{holds, different}
+use Rattle.list_laws.specs.Sets.{holds, different}
 use Rattle.mill_model.specs.declared.order.Order.{Order}
 use Rattle.set_minima.specs.Packs.{colour_at}
 use Rattle.set_minima.specs.Joins.{all_places, IsSlab}

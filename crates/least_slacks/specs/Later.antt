@@ -1,7 +1,8 @@
 -- What the knapsack works on: later orders, tables of them, and layers of tables.
-use Rattle.std.specs.Prelude.{ℕ, ◌+◌, ◌*◌, ◌<◌, ◌≤◌, ◌≡◌, Bool, ℤ, List, [], Option, length, map, All}
+use Rattle.std.specs.Prelude.{ℕ, ◌+◌, ◌*◌, ◌<◌, ◌≤◌, ◌≡◌, Bool, ℤ, List, [], Option, length, map}
+use Rattle.std.specs.Prelude.{All}
 use Rattle.mill_model.specs.Instance.{IsOrder}
-use Rattle.mill_model.specs.Sets.{holds, different}
+use Rattle.list_laws.specs.Sets.{holds, different}
 use Rattle.mill_model.specs.Slab.{load}
 use Rattle.mill_model.specs.declared.order.Order.{Order}
 use Rattle.set_minima.specs.Packs.{IsTable, colour_at}

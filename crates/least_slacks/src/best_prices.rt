@@ -1,13 +1,13 @@
 // The best prices of sets of orders by load, one order at a time.
 
-ghost use Rattle.std.specs.Prelude.{◌≡◌, ℕ, List, Bool, true, ◌+◌, ◌-◌, ◌*◌, ◌^◌, ◌<◌, ◌≤◌, ◌⊎◌, ◌∷◌};
-ghost use Rattle.std.specs.Prelude.{[], cond, leb, length, slice_index_or, pos};
-ghost use Rattle.mill_model.specs.Sets.{holds};
+ghost use Rattle.std.specs.Prelude.{◌≡◌, ℕ, List, Bool, true, ◌+◌, ◌-◌, ◌*◌, ◌^◌, ◌<◌, ◌≤◌, ◌⊎◌};
+ghost use Rattle.std.specs.Prelude.{◌∷◌, [], cond, leb, length, slice_index_or, pos};
+ghost use Rattle.list_laws.specs.Sets.{holds};
 ghost use Rattle.set_minima.specs.Packs.{better, with_price, colour_at, IsNext};
 ghost use Rattle.set_minima.specs.Joins.{all_places};
 ghost use Rattle.least_slacks.specs.Cells.{cell, found, IsNear, AreNear, IsSmall};
-ghost use Rattle.least_slacks.specs.Later.{IsLater, IsTableOf, IsRunOf, HaveSame, let_to, joined_to};
-ghost use Rattle.least_slacks.specs.Later.{others_of};
+ghost use Rattle.least_slacks.specs.Later.{IsLater, IsTableOf, IsRunOf, HaveSame, let_to};
+ghost use Rattle.least_slacks.specs.Later.{joined_to, others_of};
 
 use crate::later_orders::{Item, LaterOrders, has};
 

@@ -1,5 +1,5 @@
 ghost use Rattle.std.specs.Prelude.{◌≡◌, ◌≤◌, ◌*◌, ℕ, IfOk, All, length};
-ghost use Rattle.mill_model.specs.Sets.{holds};
+ghost use Rattle.list_laws.specs.Sets.{holds};
 ghost use Rattle.mill_model.specs.Slab.{load};
 ghost use Rattle.mill_model.specs.Instance.{IsOrder};
 ghost use Rattle.least_slacks.specs.Items.{AreItems};

@@ -1,7 +1,8 @@
 // The least slacks of groups, from tables that serve all groups with the same colours to come.
 
-ghost use Rattle.std.specs.Prelude.{◌≡◌, ℕ, List, [], Bool, true, false, ◌+◌, ◌-◌, ◌*◌, ◌<◌, ◌≤◌, ◌^◌, ◌⊎◌, All, IfOk, IfSome, IfNone};
-ghost use Rattle.std.specs.Prelude.{length, slice_index, slice_index_or, pos, neg_ℤ, ℤ, suc, Some, None};
+ghost use Rattle.std.specs.Prelude.{◌≡◌, ℕ, List, [], Bool, true, false, ◌+◌, ◌-◌, ◌*◌, ◌<◌, ◌≤◌};
+ghost use Rattle.std.specs.Prelude.{◌^◌, ◌⊎◌, All, IfOk, IfSome, IfNone, length, slice_index};
+ghost use Rattle.std.specs.Prelude.{slice_index_or, pos, neg_ℤ, ℤ, suc, Some, None};
 ghost use Rattle.mill_model.specs.Slab.{load};
 ghost use Rattle.mill_model.specs.declared.order.Order.{Order};
 ghost use Rattle.set_minima.specs.Packs.{IsTable, IsTop};
@@ -10,7 +11,7 @@ ghost use Rattle.least_slacks.specs.Cells.{cell, found, AreNear, AreNearTo, IsNe
 ghost use Rattle.mill_model.specs.Instance.{IsOrder};
 ghost use Rattle.mill_model.specs.Limits.{IsPrice};
 ghost use Rattle.mill_model.specs.Prices.{least_slack, valid};
-ghost use Rattle.mill_model.specs.Sets.{different};
+ghost use Rattle.list_laws.specs.Sets.{different};
 ghost use Rattle.least_slacks.specs.Later.{IsLater, AreLayersOf, IsTableOf, HaveSame, others_of};
 ghost use Rattle.least_slacks.specs.Limits.{mill_within};
 ghost use Rattle.least_slacks.specs.Keys.{AreLeast, HasColours, HasRoom, IsMade};

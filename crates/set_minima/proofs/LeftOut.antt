@@ -6,11 +6,11 @@ use Rattle.std.proofs.Common.{[], ◌∷◌, ◌++◌, length, map, get_or, ℤ,
 use Rattle.std.proofs.Common.{eqb, eq-eqb, refl, sym, ap, subst, ◌∙◌, arith, inl, inr, cond}
 use Rattle.std.proofs.lemmas.Int.{ints}
 use Rattle.std.specs.Int.{int_max}
-use Rattle.mill_model.specs.Sets.{chosen, int_sum, holds, different}
+use Rattle.list_laws.specs.Sets.{chosen, int_sum, holds, different}
 use Rattle.mill_model.specs.Slab.{load}
 use Rattle.mill_model.specs.declared.order.Order.{Order}
-use Rattle.mill_model.proofs.Different.{either, or-cases, or-left, or-right, different-mono}
-use Rattle.mill_model.proofs.Different.{different-length}
+use Rattle.list_laws.proofs.Tests.{either, or-cases, or-left, or-right}
+use Rattle.list_laws.proofs.Different.{different-mono, different-length}
 use Rattle.set_minima.specs.Packs.{nobody, colour_at, colours_in, Packs, IsTop, IsBest, IsNext}
 use Rattle.set_minima.specs.Packs.{IsNextColour, better, with_price}
 use Rattle.set_minima.specs.Joins.{gain, Joins, Packed}

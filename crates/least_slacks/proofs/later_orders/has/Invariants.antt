@@ -1,5 +1,5 @@
 use Rattle.std.proofs.Common.{◌≡◌, drop}
-use Rattle.mill_model.specs.Sets.{holds}
+use Rattle.list_laws.specs.Sets.{holds}
 use Rattle.least_slacks.proofs.later_orders.has.Given as goal
 
 abbrev pub invariant-loop-c : goal.invariant-loop-c

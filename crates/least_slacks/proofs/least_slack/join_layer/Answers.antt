@@ -1,6 +1,6 @@
-use Rattle.std.proofs.Common.{◌≡◌, ℕ, ◌+◌, ◌<◌, ◌∙◌, not, [], length, get_or, pos, sym, subst, arith}
-use Rattle.std.proofs.Common.{true, false, Bool, refl}
-use Rattle.mill_model.specs.Sets.{holds}
+use Rattle.std.proofs.Common.{◌≡◌, ℕ, ◌+◌, ◌<◌, ◌∙◌, not, [], length, get_or, pos, sym, subst}
+use Rattle.std.proofs.Common.{arith, true, false, Bool, refl}
+use Rattle.list_laws.specs.Sets.{holds}
 use Rattle.set_minima.specs.Packs.{IsBest, colour_at}
 use Rattle.set_minima.proofs.LeftOut.{colours-paid}
 use Rattle.least_slacks.specs.Cells.{cell, found}

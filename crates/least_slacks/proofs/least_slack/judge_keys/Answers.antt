@@ -1,8 +1,8 @@
-use Rattle.std.proofs.Common.{◌≡◌, ◌≢◌, ℕ, zero, suc, List, [], ◌∷◌, ◌<◌, ◌≤◌, ◌∙◌, true, false, length, replicate}
-use Rattle.std.proofs.Common.{ap, sym, refl, arith, ne_eqb, eqb, ℤ, pos, ◌<ℤ◌, ◌≤ℤ◌, int_le, int_lt, SFits, w64}
-use Rattle.std.proofs.Common.{to_z-of_z, rules, slice_index}
+use Rattle.std.proofs.Common.{◌≡◌, ◌≢◌, ℕ, zero, suc, List, [], ◌∷◌, ◌<◌, ◌≤◌, ◌∙◌, true, false}
+use Rattle.std.proofs.Common.{length, replicate, ap, sym, refl, arith, ne_eqb, eqb, ℤ, pos, ◌<ℤ◌}
+use Rattle.std.proofs.Common.{◌≤ℤ◌, int_le, int_lt, SFits, w64, to_z-of_z, rules, slice_index}
 use Rattle.std.proofs.lemmas.Int.{ints}
-use Rattle.mill_model.specs.Sets.{holds}
+use Rattle.list_laws.specs.Sets.{holds}
 use Rattle.mill_model.specs.Prices.{least_slack, valid}
 use Rattle.set_minima.specs.Packs.{colour_at, nobody}
 use Rattle.set_minima.specs.Joins.{IsSlab}

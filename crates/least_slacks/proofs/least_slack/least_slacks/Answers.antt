@@ -2,7 +2,7 @@ use Rattle.std.proofs.Common.{◌≡◌, ◌<◌, ◌≤◌, length, map, arith,
 use Rattle.std.proofs.lemmas.Int.{ints}
 use Rattle.std.proofs.lemmas.Bool.{cases_lt}
 use Rattle.std.proofs.lemmas.List.{get_or_past, length-map}
-use Rattle.mill_model.proofs.Different.{different-length}
+use Rattle.list_laws.proofs.Different.{different-length}
 use Rattle.set_minima.specs.Packs.{nobody}
 use Rattle.least_slacks.proofs.least_slack.least_slacks.Goals as goal
 

@@ -1,6 +1,6 @@
-use Rattle.std.proofs.Common.{◌≡◌, ℕ, List, ◌<◌, ◌≤◌, ◌∙◌, length, arith, sym, subst}
-use Rattle.std.proofs.Common.{SFits, w64, to_z-of_z, rules}
-use Rattle.mill_model.specs.Sets.{different}
+use Rattle.std.proofs.Common.{◌≡◌, ℕ, List, ◌<◌, ◌≤◌, ◌∙◌, length, arith, sym, subst, SFits, w64}
+use Rattle.std.proofs.Common.{to_z-of_z, rules}
+use Rattle.list_laws.specs.Sets.{different}
 use Rattle.least_slacks.specs.Later.{HaveSame}
 use Rattle.least_slacks.proofs.least_slack.slack_of.Goals as goal
 

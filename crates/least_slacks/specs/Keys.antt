@@ -45,9 +45,9 @@ pub record AreLeast (limits : SlabLimits) (rest : List Order) (prices : List ℤ
       least_slack (mill_within limits) (λ l. slice_index limits.charges.now l) group rest prices
 
 -- tables that are as long as those of an empty slab
-pub record HasRoom (limits : SlabLimits) (tables : SlackTables) : Type 0 where
-  pub one : length tables.one.items ≡ limits.largest + 1
-  pub layers : length tables.layers.items ≡ (limits.most + 1) * (limits.largest + 1)
+pub record HasRoom (largest most : ℕ) (tables : SlackTables) : Type 0 where
+  pub one : length tables.one.items ≡ largest + 1
+  pub layers : length tables.layers.items ≡ (most + 1) * (largest + 1)
 
 -- layers without some colours, and a table of all orders for the slabs that have these colours
 -- among so many

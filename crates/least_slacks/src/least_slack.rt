@@ -247,11 +247,14 @@ fn layer_for(limits: &SlabLimits, later: &LaterOrders, colours: usize) -> usize
 }
 
 impl SlackTables {
-    pub fn new(alloc: Global, limits: &SlabLimits) -> Result<SlackTables, OutOfMemory>
-        ensures { IfOk result (HasRoom limits.now) }
+    /// Tables for slabs up to the largest load and the most colours.
+    pub fn new(alloc: Global, largest: usize, most: usize) -> Result<SlackTables, OutOfMemory>
+        requires size { largest ≤ 20000 }
+        requires few { most ≤ 8 }
+        ensures { IfOk result (HasRoom largest most) }
     {
-        let width = limits.largest + 1;
-        let layers = limits.most + 1;
+        let width = largest + 1;
+        let layers = most + 1;
         Ok(SlackTables {
             one: vec![in alloc; NOTHING; width]?,
             layers: vec![in alloc; NOTHING; layers * width]?,
@@ -501,7 +504,7 @@ pub fn least_slacks(
     requires orders { All IsOrder rest.now }
     requires same { length prices.now ≡ length rest.now }
     requires priced { All IsPrice prices.now }
-    requires room { HasRoom limits.now tables.old }
+    requires room { HasRoom limits.now.largest limits.now.most tables.old }
     requires keys { All (λ key. (key.load ≤ limits.now.largest)
         × (key.colours ≤ limits.now.most)) keys.now }
     ensures some { IfOk result (λ found. IfSome found (λ slacks.
@@ -511,7 +514,7 @@ pub fn least_slacks(
     ensures none { IfOk result (λ found. IfNone found (
         valid (mill_within limits.now) (λ l. slice_index limits.now.charges.now l) rest.now
         prices.now ≡ false)) }
-    ensures room { HasRoom limits.now tables.new }
+    ensures room { HasRoom limits.now.largest limits.now.most tables.new }
 {
     let items = by_colour(alloc, rest)?;
     let mut slacks = vec![in alloc; 0; keys.len()]?;

@@ -10,8 +10,8 @@ returns-then-count-g c =
     lt-leb (get_or c.args.path.now c.args.k 0) (next_new (take c.args.k c.args.path.now))
     (omega (arith, c.if-count-g.true, c.requires.count)) in
     rw far (never (ltb (length (take c.args.k c.args.path.now))
-    (length c.args.rules.now.ranked.items)))
+    (length c.args.rules.now.ranked.items)) _ _)
   where
-    never : (b : Bool) → {x y : Bool} → false ≡ (b && false && x && y)
-    never true = refl
-    never false = refl
+    never : (b x y : Bool) → false ≡ (b && false && x && y)
+    never true x y = refl
+    never false x y = refl

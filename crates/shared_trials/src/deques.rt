@@ -77,8 +77,8 @@ fn three_orders(alloc: Global) -> Result<Ranked, OutOfMemory> {
     Ranked::new(alloc, &Instance::new(vec![in alloc; 4]?, 3, orders, 2))
 }
 
-// The children of the first child of the empty path. They are the paths 0 0 and 0 1, where there are
-// orders.
+// The children of the first child of the empty path. They are the paths 0 0 and 0 1, where there
+// are orders.
 fn two_paths(alloc: Global, ranked: &Ranked) -> Result<Vec<Path>, OutOfMemory>
     ensures { IfOk result (λ paths. All (λ path. in_tree ranked.now.mill (orders_of ranked.now) path
         ≡ true) paths.items) }

@@ -16,7 +16,8 @@ const ROUNDS: u64 = 100_000;
 
 const START: u64 = 9_000_000;
 
-// A worker's seats, and what it did: the least loss that it published, and the tickets that it drew.
+// A worker's seats, and what it did: the least loss that it published, and the tickets that it
+// drew.
 #[derive(Drop)]
 struct Worker {
     loss: BestSeat,
@@ -107,8 +108,8 @@ fn workers_of(
     Ok(workers)
 }
 
-// Joins what the workers know, and puts their tickets together. The answer is the least loss that any
-// of them published.
+// Joins what the workers know, and puts their tickets together. The answer is the least loss that
+// any of them published.
 fn join_all(
     best: &Best,
     meter: &Meter,

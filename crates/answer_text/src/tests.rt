@@ -27,7 +27,10 @@ fn reads_and_prints_again(rt: HostRuntime) -> Result<(), Fail> {
     let rows: [(u16, &str); 5] = [
         (3, "optimal\nloss 4\nplan 1 1 2\nend\n"),
         (0, "optimal\nloss 0\nplan\nlog 1 1\nL 0\nend\n"),
-        (4, "optimal\nloss 2\nplan 1 1 2 2\nlog 1 3\nS 0\nD 3 1 2 1 1 1 2\nP 3 1 2 2 -5\nend\n"),
+        (
+            4,
+            "optimal\nloss 2\nplan 1 1 2 2\nlog 1 3\nS 0\nD 3 1 2 1 1 1 2\nP 3 1 2 2 -5\nend\n",
+        ),
         (2, "feasible\nloss 6\nplan 2 1\nspent 17\nend\n"),
         (1024, "infeasible\norder 1024\nend\n"),
     ];

@@ -18,9 +18,6 @@ use Rattle.log_checker.specs.Groups.{Seen, joined, may_be, no_order, with_colour
 use Rattle.log_checker.specs.Setting.{AreEnds}
 use Rattle.log_checker.specs.Live.{IsLightest, AreNone, lives, takes_of}
 
-clash : (b : Bool) → b ≡ true → b ≡ false → ⊥
-clash b t f = cc
-
 abbrev Falls : List Order → Type 0
 Falls ranked =
     (i j : ℕ) (d : Order) → i ≤ j → j < length ranked →

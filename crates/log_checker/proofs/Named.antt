@@ -12,10 +12,6 @@ use Rattle.list_laws.proofs.Among.{Among, all-among}
 use Rattle.refute_log.specs.Rising.{comes_before, rises}
 use Rattle.refute_log.proofs.Order.{before-trans, before-differs, after-differs}
 
-recorded-length : (log : List Entry) → length (recorded log) ≡ length log
-recorded-length [] = refl
-recorded-length (e ∷ log) = ap suc (recorded-length log)
-
 among-at : (ps : List (List ℕ)) (i : ℕ) → i < length ps → Among (get_or ps i []) ps
 among-at [] i h = absurd (omega arith)
 among-at (p ∷ ps) zero h = inl refl

@@ -52,7 +52,9 @@ goes-on-from mill groups ranked path g d it h n =
     (slab g path ranked ++ get_or ranked (length path) d ∷ [])
     (seen-push (get_or groups g nothing_seen) (slab g path ranked)
     (get_or ranked (length path) d) it)) in
-    rw (a, b) refl
+    let to-come : ltb (length path) (length ranked) ≡ true =
+    lt-ltb (length path) (length ranked) h in
+    rw (to-come, a, b) refl
 
 pub take-push : (k : ℕ) (path : List ℕ) → k < length path → take (k + 1) path ≡ take k path
     ++ get_or path k 0 ∷ []

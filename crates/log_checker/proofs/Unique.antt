@@ -15,9 +15,6 @@ use Rattle.log_checker.specs.declared.verdict.LogVerdict.{LogVerdict}
 use Rattle.log_checker.specs.declared.verdict.LogVerdict.TheVariants as verdicts
 use Rattle.log_checker.proofs.Counted.{each_holds_up, right-not_wrong}
 
-clash : (b : Bool) → b ≡ true → b ≡ false → ⊥
-clash b t f = cc
-
 -- in a log that refutes a loss each record holds up
 upheld-where : (task : Task) (bound : ℕ) (log : List Entry) (p : List ℕ) (es : List Entry) →
     AllByRecursion (λ e. sound task bound e.path e.closing ≡ true) es →

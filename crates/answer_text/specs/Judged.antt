@@ -1,6 +1,6 @@
 -- What is wrong with lines that are no answer's text. Lines are counted from 1.
 use Rattle.std.specs.Prelude.{ℕ, ◌+◌, ◌≡◌, ◌≤◌, ◌⊎◌, List, [], ◌∷◌, ◌++◌, map, length, take, None}
-use Rattle.std.specs.Prelude.{Result, Err}
+use Rattle.std.specs.Prelude.{Result}
 use Rattle.mill_model.specs.Exactly.{ComesExactly}
 use Rattle.line_text.specs.Words.{BeginsWith}
 use Rattle.refute_log.specs.Text.{first_line}

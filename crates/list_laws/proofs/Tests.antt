@@ -31,10 +31,10 @@ pub clash : (b : Bool) → b ≡ true → b ≡ false → ⊥
 clash b t f = cc
 
 -- equal truth values from both ways
-pub both-ways : (a b : Bool) → (a ≡ true → b ≡ true) → (b ≡ true → a ≡ true) → a ≡ b
-both-ways true b f g = sym (f refl)
-both-ways false true f g = g refl
-both-ways false false f g = refl
+pub equal-tests : (a b : Bool) → (a ≡ true → b ≡ true) → (b ≡ true → a ≡ true) → a ≡ b
+equal-tests true b f g = sym (f refl)
+equal-tests false true f g = g refl
+equal-tests false false f g = refl
 
 -- how the heads of two lists compare, of which one comes before the other
 pub head-cases : (g h : ℕ) (b : Bool) → (ltb g h || (eqb g h && b)) ≡ true →

@@ -16,6 +16,7 @@ pub mod Slacks
 pub mod Ascent
 pub mod Sweep
 pub mod PriceLaws
+pub mod PricesWithin
 pub mod Mated
 pub mod Carry
 pub mod Law

@@ -1,9 +1,9 @@
 -- Small instances, with their logs, at which the definitions are computed.
-use Rattle.std.specs.Prelude.{ℕ, Bool, List, [], ◌∷◌, ◌++◌, length, ℤ, pos}
+use Rattle.std.specs.Prelude.{ℕ, Bool, List, [], ◌∷◌, ◌++◌, ℤ, pos}
 use Rattle.mill_model.specs.Slab.{Mill}
 use Rattle.mill_model.specs.Prices.{worth}
 use Rattle.mill_model.specs.LiveKey.{same_live_key}
-use Rattle.mill_model.specs.Bounds.{sweep}
+use Rattle.mill_model.specs.Bounds.{swept}
 use Rattle.mill_model.specs.Rank.{ranked_orders}
 use Rattle.list_laws.specs.Sets.{same_list, same_times}
 use Rattle.mill_model.specs.Log.{Task, recorded, split_children}
@@ -29,8 +29,7 @@ abbrev pub worth_at : Task → List ℕ → List ℤ → ℤ
 worth_at task path prices = worth task.mill task.charge task.ranked path prices
 
 abbrev pub swept_at : Task → List ℕ → List ℤ → List ℤ
-swept_at task path prices =
-    sweep task.mill task.charge task.ranked path prices (length prices)
+swept_at task path prices = swept task.mill task.charge task.ranked path prices
 
 abbrev pub same_key : Task → List ℕ → List ℕ → Bool
 same_key task path other = same_live_key task.mill task.ranked path other
@@ -100,3 +99,7 @@ class_task = task_of_orders one_colour four class_orders
 -- The orders (3, 2) and (1, 1) with one colour a slab.
 abbrev pub two_task : Task
 two_task = task_of_orders one_colour four (order 3 2 ∷ order 1 1 ∷ [])
+
+-- orders of which two and two are equal
+abbrev pub tied_orders : List Order
+tied_orders = order 1 5 ∷ order 2 1 ∷ order 1 5 ∷ order 2 1 ∷ order 1 2 ∷ []

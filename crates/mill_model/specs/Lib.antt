@@ -13,6 +13,7 @@ pub mod Log
 pub mod Bounds
 pub mod Conserved
 pub mod Size
+pub mod Thrift
 pub mod Best
 pub mod Exactly
 pub mod Small

@@ -3,7 +3,7 @@
 use Rattle.std.specs.Prelude.{ℕ, zero, suc, ◌+◌, ◌*◌, ◌/◌, ◌-◌, ◌≤◌, ◌≡◌, Bool, true, cond, not}
 use Rattle.std.specs.Prelude.{◌&&◌, ◌||◌, List, [], ◌∷◌, ◌++◌, map, length, take, leb, ltb}
 use Rattle.std.specs.List.{list_all}
-use Rattle.mill_model.specs.Sets.{holds, chosen, sets}
+use Rattle.list_laws.specs.Sets.{holds, chosen, sets}
 use Rattle.mill_model.specs.Slab.{Mill, load, legal}
 use Rattle.mill_model.specs.Plan.{slab, loss, IsLegalPlan}
 use Rattle.mill_model.specs.Rank.{ranked_orders}

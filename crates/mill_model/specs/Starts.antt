@@ -1,9 +1,9 @@
 -- Greedy starts: first fit and best fit, and what the better of them loses. Both give each order a
 -- group in rank, so what they give is a path.
-use Rattle.std.specs.Prelude.{ℕ, zero, suc, Bool, List, [], ◌∷◌, ◌++◌, filter, length, min, pos, ◌-ℤ◌}
-use Rattle.std.specs.Prelude.{int_le, find, unwrap_or, ℤ}
+use Rattle.std.specs.Prelude.{ℕ, zero, suc, Bool, List, [], ◌∷◌, ◌++◌, filter, length, min, pos}
+use Rattle.std.specs.Prelude.{◌-ℤ◌, int_le, find, unwrap_or, ℤ}
 use Rattle.std.specs.List.{list_all}
-use Rattle.mill_model.specs.Sets.{below}
+use Rattle.list_laws.specs.Sets.{below}
 use Rattle.mill_model.specs.Slab.{Mill, load, legal}
 use Rattle.mill_model.specs.Plan.{slab, loss}
 use Rattle.mill_model.specs.Tree.{next_new}

@@ -30,6 +30,7 @@ use Rattle.log_checker.specs.declared.key.LiveGroup.{LiveGroup}
 use Rattle.log_checker.proofs.ComingLemmas.{coming-same, same-coming}
 use Rattle.log_checker.proofs.LiveLemmas.{both-ways}
 use Rattle.log_checker.proofs.Sorted.{InOrder, in-order-from, ordered-same, times-moved}
+use Rattle.list_laws.proofs.Tests.{equal-tests}
 
 -- the later orders see the same of two groups exactly where the same colours come again
 alike : (p q : ℕ → Bool) (rest : List Order) → same_marks (map (λ o. p o.colour) rest)

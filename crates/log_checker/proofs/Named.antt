@@ -11,6 +11,7 @@ use Rattle.list_laws.proofs.Tests.{and-left, and-right}
 use Rattle.list_laws.proofs.Among.{Among, all-among}
 use Rattle.refute_log.specs.Rising.{comes_before, rises}
 use Rattle.refute_log.proofs.Order.{before-trans, before-differs, after-differs}
+use Rattle.mill_model.proofs.Records.{recorded-length}
 
 among-at : (ps : List (List ℕ)) (i : ℕ) → i < length ps → Among (get_or ps i []) ps
 among-at [] i h = absurd (omega arith)

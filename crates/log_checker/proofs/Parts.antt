@@ -7,6 +7,7 @@ use Rattle.list_laws.proofs.Tests.{and-left, and-right, either}
 use Rattle.list_laws.proofs.Among.{Among, below-lt}
 use Rattle.refute_log.specs.Rising.{comes_before}
 use Rattle.refute_log.proofs.Order.{head-less, head-same}
+use Rattle.list_laws.proofs.Tests.{head-cases}
 
 -- whether two paths part, the first by the smaller number
 abbrev pub parts : List ℕ → List ℕ → Bool

@@ -19,6 +19,8 @@ use Rattle.log_checker.proofs.Parts.{children-part}
 use Rattle.log_checker.specs.Verdict.{holds_up, verdict_from, IsVerdict}
 use Rattle.log_checker.proofs.Counted.{records_at, wants_of, each_holds_up, IsRight, RightBefore}
 use Rattle.log_checker.proofs.Counted.{IsMissing, IsStray, IsUnsound, IsFound, found-is}
+use Rattle.mill_model.proofs.Records.{recorded-append, split-append}
+use Rattle.list_laws.proofs.Among.{Among-unappend}
 
 -- where a pass stands: what is done, what is to come
 pub record IsAt (task : Task) (bound : ℕ) (log done : List Entry) (paths : List (List ℕ))

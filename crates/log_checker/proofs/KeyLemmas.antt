@@ -30,12 +30,7 @@ use Rattle.log_checker.specs.declared.key.LiveGroup.{LiveGroup}
 use Rattle.log_checker.proofs.ComingLemmas.{coming-same, same-coming}
 use Rattle.log_checker.proofs.LiveLemmas.{both-ways}
 use Rattle.log_checker.proofs.Sorted.{InOrder, in-order-from, ordered-same, times-moved}
-
--- equal truth values from both ways
-bools : (a b : Bool) → (a ≡ true → b ≡ true) → (b ≡ true → a ≡ true) → a ≡ b
-bools true b f g = sym (f refl)
-bools false true f g = g refl
-bools false false f g = refl
+use Rattle.list_laws.proofs.Tests.{equal-tests}
 
 -- the later orders see the same of two groups exactly where the same colours come again
 alike : (p q : ℕ → Bool) (rest : List Order) → same_marks (map (λ o. p o.colour) rest)
@@ -81,7 +76,7 @@ key-same rest a b x y low s t =
     ap₂ (λ u v. u && v)
     (ap₂ (λ u v. u && v) (ap₂ (λ m n. eqb m n) (sym s.weighs) (sym t.weighs))
     (ap₂ (λ m n. eqb m n) (sym s.counts) (sym t.counts)))
-    (bools (same_marks (marks rest a) (marks rest b)) (same_list x.coming y.coming) there back)
+    (equal-tests (same_marks (marks rest a) (marks rest b)) (same_list x.coming y.coming) there back)
   where
     there : same_marks (marks rest a) (marks rest b) ≡ true → same_list x.coming y.coming ≡ true
     there h =
@@ -277,7 +272,7 @@ module _ (rest : List Order) (low : All (λ o. o.colour < 65535) rest) where
       let y = ap₂ (λ u v. u && v)
       (each-keys first first second p p q s.live.keys s.live.keys t.live.keys)
       (each-keys second first second q p q t.live.keys s.live.keys t.live.keys) in
-      bools (same_keys a b) (same_times same_key (map key_in p) (map key_in q)) there back
+      equal-tests (same_keys a b) (same_times same_key (map key_in p) (map key_in q)) there back
       ∙ both-ways same_key (map key_in p) (map key_in q) ∙ sym (x ∙ y)
     where
       moved-a : (k : Key) → times same_key k (map key_in a) ≡ times same_key k (map key_in s.plain)

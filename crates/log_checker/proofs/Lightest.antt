@@ -17,9 +17,7 @@ use Rattle.list_laws.proofs.Among.{Among, any-among, any-from}
 use Rattle.log_checker.specs.Groups.{Seen, joined, may_be, no_order, with_colour}
 use Rattle.log_checker.specs.Setting.{AreEnds}
 use Rattle.log_checker.specs.Live.{IsLightest, AreNone, lives, takes_of}
-
-clash : (b : Bool) → b ≡ true → b ≡ false → ⊥
-clash b t f = cc
+use Rattle.list_laws.proofs.Tests.{clash}
 
 abbrev Falls : List Order → Type 0
 Falls ranked =

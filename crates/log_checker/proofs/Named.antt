@@ -11,10 +11,7 @@ use Rattle.list_laws.proofs.Tests.{and-left, and-right}
 use Rattle.list_laws.proofs.Among.{Among, all-among}
 use Rattle.refute_log.specs.Rising.{comes_before, rises}
 use Rattle.refute_log.proofs.Order.{before-trans, before-differs, after-differs}
-
-recorded-length : (log : List Entry) → length (recorded log) ≡ length log
-recorded-length [] = refl
-recorded-length (e ∷ log) = ap suc (recorded-length log)
+use Rattle.mill_model.proofs.Records.{recorded-length}
 
 among-at : (ps : List (List ℕ)) (i : ℕ) → i < length ps → Among (get_or ps i []) ps
 among-at [] i h = absurd (omega arith)

@@ -10,7 +10,13 @@ use Rattle.std.proofs.lemmas.List.{drop_more}
 use Rattle.mill_laws.proofs.Groups.{next_new-append}
 use Rattle.mill_model.specs.Rank.{starts_class_in, same_order}
 use Rattle.mill_model.specs.Tree.{last_number, next_new, may_go_on, goes_on}
+use Rattle.mill_model.specs.Tree.{in_tree}
+use Rattle.std.proofs.Common.{inl, inr}
+use Rattle.list_laws.proofs.Tests.{either, clash}
+use Rattle.mill_laws.proofs.Paths.{may-next, tree-length}
 use Rattle.mill_model.specs.declared.order.Order.{Order}
+use Rattle.std.proofs.Common.{ltb}
+use Rattle.std.proofs.Common.{lt-ltb}
 
 pub starts-past : (k : ℕ) (orders : List Order) → length orders ≤ k →
     starts_class_in k orders ≡ true
@@ -52,7 +58,9 @@ goes-on-from mill groups ranked path g d it h n =
     (slab g path ranked ++ get_or ranked (length path) d ∷ [])
     (seen-push (get_or groups g nothing_seen) (slab g path ranked)
     (get_or ranked (length path) d) it)) in
-    rw (a, b) refl
+    let to-come : ltb (length path) (length ranked) ≡ true =
+    lt-ltb (length path) (length ranked) h in
+    rw (to-come, a, b) refl
 
 pub take-push : (k : ℕ) (path : List ℕ) → k < length path → take (k + 1) path ≡ take k path
     ++ get_or path k 0 ∷ []
@@ -83,3 +91,20 @@ pub next_new-push : (k : ℕ) (path : List ℕ) → k < length path →
 next_new-push k path h =
     ap next_new (take-push k path h) ∙ next_new-append (take k path) (get_or path k 0 ∷ [])
     ∙ (let e : max (suc (get_or path k 0)) 0 ≡ get_or path k 0 + 1 = omega arith in rw e refl)
+
+-- a number past the next new one leads nowhere
+pub goes-too-far : (mill : Mill) (ranked : List Order) (path : List ℕ) (g : ℕ) →
+    leb g (next_new path) ≡ false → may_go_on mill ranked path g ≡ false
+goes-too-far mill ranked path g far = elim (either (may_go_on mill ranked path g)) [
+  | inl may ↦ absurd (clash (leb g (next_new path))
+      (le-leb g (next_new path) (may-next mill ranked path g may)) far)
+  | inr refused ↦ refused
+]
+
+-- a path longer than the orders isn't in the tree
+pub too-long : (mill : Mill) (ranked : List Order) (path : List ℕ) → length ranked < length path →
+    in_tree mill ranked path ≡ false
+too-long mill ranked path more = elim (either (in_tree mill ranked path)) [
+  | inl inside ↦ absurd (omega (arith, tree-length mill ranked path inside))
+  | inr refused ↦ refused
+]

@@ -14,9 +14,7 @@ use Rattle.log_checker.specs.Verdict.{is_unsound, is_wrong, IsFirst, IsVerdict}
 use Rattle.log_checker.specs.declared.verdict.LogVerdict.{LogVerdict}
 use Rattle.log_checker.specs.declared.verdict.LogVerdict.TheVariants as verdicts
 use Rattle.log_checker.proofs.Counted.{each_holds_up, right-not_wrong}
-
-clash : (b : Bool) → b ≡ true → b ≡ false → ⊥
-clash b t f = cc
+use Rattle.list_laws.proofs.Tests.{clash}
 
 -- in a log that refutes a loss each record holds up
 upheld-where : (task : Task) (bound : ℕ) (log : List Entry) (p : List ℕ) (es : List Entry) →

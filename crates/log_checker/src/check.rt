@@ -2,12 +2,12 @@ ghost use Rattle.std.specs.Prelude.{◌≡◌, ◌<◌, ◌≤◌, ◌+◌, ◌�
 ghost use Rattle.std.specs.Prelude.{OnOk, IfSome, IfNone, true, false, List, cond, slice_index};
 ghost use Rattle.std.specs.List.{list_all};
 ghost use Rattle.list_laws.specs.Sets.{same_list};
-ghost use Rattle.mill_model.specs.Log.{recorded, left_open, Refutes as LogRefutes};
+ghost use Rattle.mill_model.specs.Log.{recorded, left_open, task_of, Refutes as LogRefutes};
 ghost use Rattle.refute_log.specs.Rising.{comes_before, rises};
 ghost use Rattle.refute_log.specs.Fits.{path_fits, fits};
-ghost use Rattle.mill_model.specs.Instance.{largest, mill_of};
+ghost use Rattle.mill_model.specs.Instance.{mill_of};
 ghost use Rattle.mill_model.specs.Plan.{NoneLosesLess};
-ghost use Rattle.log_checker.specs.Setting.{task_of};
+ghost use Rattle.mill_model.specs.Charges.{Reaches, charge_of};
 ghost use Rattle.log_checker.specs.Judged.{task_by, mill_by};
 ghost use Rattle.log_checker.specs.Verdict.{is_missing, is_stray, is_unsound, is_wrong, IsFirst};
 ghost use Rattle.log_checker.specs.Verdict.{IsVerdict, verdict_from};
@@ -165,20 +165,20 @@ pub fn check_log(
     log: &Log,
 ) -> Result<LogVerdict, OutOfMemory>
     requires orders { log.now.orders ≡ length instance.now.orders }
-    requires reach { length charges.now ≡ largest instance.now.sizes + 1 }
+    requires reach { Reaches charges.now (mill_of instance.now) }
     ensures refutes { IfOk result (λ v. (v ≡ Refutes) ↔
-        (LogRefutes (task_of instance.now charges.now) loss log.now.entries)) }
+        (LogRefutes (task_of instance.now (charge_of charges.now)) loss log.now.entries)) }
     ensures missing { (path : List ℕ) → IfOk result (λ v. (v ≡ Missing path) ↔
-        (IsFirst (is_missing (task_of instance.now charges.now) log.now.entries)
-        (is_wrong (task_of instance.now charges.now) loss log.now.entries) path)) }
+        (IsFirst (is_missing (task_of instance.now (charge_of charges.now)) log.now.entries)
+        (is_wrong (task_of instance.now (charge_of charges.now)) loss log.now.entries) path)) }
     ensures stray { (path : List ℕ) → IfOk result (λ v. (v ≡ Stray path) ↔
-        (IsFirst (is_stray (task_of instance.now charges.now) log.now.entries)
-        (is_wrong (task_of instance.now charges.now) loss log.now.entries) path)) }
+        (IsFirst (is_stray (task_of instance.now (charge_of charges.now)) log.now.entries)
+        (is_wrong (task_of instance.now (charge_of charges.now)) loss log.now.entries) path)) }
     ensures unsound { (path : List ℕ) → IfOk result (λ v. (v ≡ Unsound path) ↔
-        (IsFirst (is_unsound (task_of instance.now charges.now) loss log.now.entries)
-        (is_wrong (task_of instance.now charges.now) loss log.now.entries) path)) }
+        (IsFirst (is_unsound (task_of instance.now (charge_of charges.now)) loss log.now.entries)
+        (is_wrong (task_of instance.now (charge_of charges.now)) loss log.now.entries) path)) }
     ensures bound { IfOk result (λ v. v ≡ Refutes →
-        NoneLosesLess (mill_of instance.now) (λ l. slice_index charges.now l) instance.now.orders
+        NoneLosesLess (mill_of instance.now) (charge_of charges.now) instance.now.orders
         loss) }
 {
     let judge = judge_of(alloc, instance, charges)?;

@@ -2,7 +2,8 @@ use Rattle.std.proofs.Common.{◌≡◌, ◌∙◌, length, ap, sym, slice_index
 use Rattle.mill_model.specs.Instance.{mill_of}
 use Rattle.mill_model.specs.Log.{Task}
 use Rattle.mill_laws.proofs.LogLaws.{refuted-loss-bounds}
-use Rattle.log_checker.specs.Setting.{task_of}
+use Rattle.mill_model.specs.Log.{task_of}
+use Rattle.mill_model.specs.Charges.{charge_of}
 use Rattle.log_checker.specs.Judged.{task_by}
 use Rattle.log_checker.specs.declared.verdict.LogVerdict.TheVariants as verdicts
 use Rattle.log_checker.proofs.Unique.{verdict-given, verdict-only}
@@ -17,11 +18,11 @@ check_by-requires-clause-fits c =
 pub returns-clause-refutes : goal.returns-clause-refutes
 returns-clause-refutes c = (
   verdict-given (task_by c.in_ok-judge.judge)
-      (task_of c.args.instance.now c.args.charges.now) c.args.loss c.entries.result.now
+      (task_of c.args.instance.now (charge_of c.args.charges.now)) c.args.loss c.entries.result.now
       c.args.log.now.entries c.in_ok-judge.ensures.is c.entries.ensures.is c.in_ok-verdict.verdict
       c.in_ok-verdict.ensures.verdict verdicts.Refutes,
   verdict-only (task_by c.in_ok-judge.judge)
-      (task_of c.args.instance.now c.args.charges.now) c.args.loss c.entries.result.now
+      (task_of c.args.instance.now (charge_of c.args.charges.now)) c.args.loss c.entries.result.now
       c.args.log.now.entries c.in_ok-judge.ensures.is c.entries.ensures.is c.in_ok-verdict.verdict
       c.in_ok-verdict.ensures.verdict verdicts.Refutes,
 )
@@ -29,11 +30,11 @@ returns-clause-refutes c = (
 pub returns-clause-missing : goal.returns-clause-missing
 returns-clause-missing c path = (
   verdict-given (task_by c.in_ok-judge.judge)
-      (task_of c.args.instance.now c.args.charges.now) c.args.loss c.entries.result.now
+      (task_of c.args.instance.now (charge_of c.args.charges.now)) c.args.loss c.entries.result.now
       c.args.log.now.entries c.in_ok-judge.ensures.is c.entries.ensures.is c.in_ok-verdict.verdict
       c.in_ok-verdict.ensures.verdict (verdicts.Missing path),
   verdict-only (task_by c.in_ok-judge.judge)
-      (task_of c.args.instance.now c.args.charges.now) c.args.loss c.entries.result.now
+      (task_of c.args.instance.now (charge_of c.args.charges.now)) c.args.loss c.entries.result.now
       c.args.log.now.entries c.in_ok-judge.ensures.is c.entries.ensures.is c.in_ok-verdict.verdict
       c.in_ok-verdict.ensures.verdict (verdicts.Missing path),
 )
@@ -41,11 +42,11 @@ returns-clause-missing c path = (
 pub returns-clause-stray : goal.returns-clause-stray
 returns-clause-stray c path = (
   verdict-given (task_by c.in_ok-judge.judge)
-      (task_of c.args.instance.now c.args.charges.now) c.args.loss c.entries.result.now
+      (task_of c.args.instance.now (charge_of c.args.charges.now)) c.args.loss c.entries.result.now
       c.args.log.now.entries c.in_ok-judge.ensures.is c.entries.ensures.is c.in_ok-verdict.verdict
       c.in_ok-verdict.ensures.verdict (verdicts.Stray path),
   verdict-only (task_by c.in_ok-judge.judge)
-      (task_of c.args.instance.now c.args.charges.now) c.args.loss c.entries.result.now
+      (task_of c.args.instance.now (charge_of c.args.charges.now)) c.args.loss c.entries.result.now
       c.args.log.now.entries c.in_ok-judge.ensures.is c.entries.ensures.is c.in_ok-verdict.verdict
       c.in_ok-verdict.ensures.verdict (verdicts.Stray path),
 )
@@ -53,24 +54,21 @@ returns-clause-stray c path = (
 pub returns-clause-unsound : goal.returns-clause-unsound
 returns-clause-unsound c path = (
   verdict-given (task_by c.in_ok-judge.judge)
-      (task_of c.args.instance.now c.args.charges.now) c.args.loss c.entries.result.now
+      (task_of c.args.instance.now (charge_of c.args.charges.now)) c.args.loss c.entries.result.now
       c.args.log.now.entries c.in_ok-judge.ensures.is c.entries.ensures.is c.in_ok-verdict.verdict
       c.in_ok-verdict.ensures.verdict (verdicts.Unsound path),
   verdict-only (task_by c.in_ok-judge.judge)
-      (task_of c.args.instance.now c.args.charges.now) c.args.loss c.entries.result.now
+      (task_of c.args.instance.now (charge_of c.args.charges.now)) c.args.loss c.entries.result.now
       c.args.log.now.entries c.in_ok-judge.ensures.is c.entries.ensures.is c.in_ok-verdict.verdict
       c.in_ok-verdict.ensures.verdict (verdicts.Unsound path),
 )
 
 pub returns-clause-bound : goal.returns-clause-bound
 returns-clause-bound c e plan l =
-    let none : slice_index c.args.charges.now 0 ≡ 0 =
-    sym (ap (λ (t : Task). t.charge 0) c.in_ok-judge.ensures.is)
-    ∙ c.in_ok-judge.judge.setting.none in
-    refuted-loss-bounds (mill_of c.args.instance.now) (λ l. slice_index c.args.charges.now l)
-    c.args.instance.now.orders c.args.loss c.args.log.now.entries none
+    refuted-loss-bounds (mill_of c.args.instance.now) (charge_of c.args.charges.now)
+    c.args.instance.now.orders c.args.loss c.args.log.now.entries c.args.charges.now.free
     (
     verdict-given (task_by c.in_ok-judge.judge)
-    (task_of c.args.instance.now c.args.charges.now) c.args.loss c.entries.result.now
+    (task_of c.args.instance.now (charge_of c.args.charges.now)) c.args.loss c.entries.result.now
     c.args.log.now.entries c.in_ok-judge.ensures.is c.entries.ensures.is c.in_ok-verdict.verdict
     c.in_ok-verdict.ensures.verdict verdicts.Refutes e) plan l

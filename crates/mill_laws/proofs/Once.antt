@@ -123,18 +123,3 @@ pub once-recorded : (task : Task) (log : List Entry) → IsComplete task log →
 once-recorded task log h path =
     rw append-nil at (conserved-once task log [] (λ p. rw append-nil (h p)) (length path) path
     (omega arith))
-
--- Of a log that records no path twice: it is complete where it misses no path and none is stray.
-pub complete-from : (task : Task) (log : List Entry) →
-    ((path : List ℕ) → times same_list path (recorded log) ≤ 1) →
-    ((path : List ℕ) → 0 < times same_list path ([] ∷ split_children task log) →
-    0 < times same_list path (recorded log)) →
-    ((path : List ℕ) → 0 < times same_list path (recorded log) →
-    0 < times same_list path ([] ∷ split_children task log)) → IsComplete task log
-complete-from task log once missing stray path =
-    equal (times same_list path (recorded log)) (times same_list path
-    ([] ∷ split_children task log)) (once path) (wanted-once task log once path) (missing path)
-    (stray path)
-  where
-    equal : (a b : ℕ) → a ≤ 1 → b ≤ 1 → (0 < b → 0 < a) → (0 < a → 0 < b) → a ≡ b
-    equal a b x y f g = grind arith

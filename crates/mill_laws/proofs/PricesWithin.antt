@@ -109,9 +109,9 @@ without-legal mill group rest i marks a =
     plainer : (fewer : List Bool) → fewer ≡ set marks i false →
         colours (group ++ chosen fewer rest) ≤ colours (group ++ chosen marks rest)
     plainer fewer e = rw e (rw (
-        map-append (λ o. o.colour) group (chosen (set marks i false) rest),
-        map-append (λ o. o.colour) group (chosen marks rest),
-      ) (different-mono (colours_of group ++ colours_of (chosen (set marks i false) rest))
+      map-append (λ o. o.colour) group (chosen (set marks i false) rest),
+      map-append (λ o. o.colour) group (chosen marks rest),
+    ) (different-mono (colours_of group ++ colours_of (chosen (set marks i false) rest))
         (colours_of group ++ colours_of (chosen marks rest))
         (λ c h. grind (
           arith,

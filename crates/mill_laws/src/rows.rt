@@ -127,8 +127,14 @@ pub fn rank_with_ties()
 /// neither of the colours to come.
 pub fn live_key_of_a_path()
     ensures { live_key three_mill three_ranked (0 ∷ [])
-        ≡ record { depth = 1; groups = record { load = 2; colours = 1;
-            coming = false ∷ false ∷ [] } ∷ [] } }
+        ≡ record {
+          depth = 1;
+          groups = record {
+            load = 2;
+            colours = 1;
+            coming = false ∷ false ∷ [];
+          } ∷ [];
+        } }
 {}
 
 /// A path that has placed every order has no child.

@@ -12,8 +12,6 @@ mod price;
 mod rules;
 mod setting;
 mod sound;
-#[cfg(test)]
-mod tests;
 mod tree;
 mod verdict;
 

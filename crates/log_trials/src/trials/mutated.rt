@@ -58,27 +58,6 @@ fn a_line_dropped(rt: HostRuntime) -> Result<(), Fail> {
 }
 
 #[test]
-fn a_line_doubled_or_moved_is_no_log(rt: HostRuntime) -> Result<(), Fail> {
-    let alloc = rt.alloc();
-    for base in LOGS {
-        for from in 0..base.lines.len() {
-            for to in 0..base.lines.len() {
-                let mut lines = base.lines.to_vec(alloc)?;
-                let line = if from == to {
-                    lines[from]
-                } else {
-                    lines.remove(from)
-                };
-                lines.insert(to, line)?;
-                let told = told_of(alloc, base.case, &lines)?;
-                assert_eq!(rt; told.as_str(), "no log", "line {from} at {to}");
-            }
-        }
-    }
-    Ok(())
-}
-
-#[test]
 fn a_number_changed(rt: HostRuntime) -> Result<(), Fail> {
     let alloc = rt.alloc();
     for base in LOGS {

@@ -2,7 +2,7 @@ use Rattle.std.proofs.Common.{◌≡◌, ◌++◌, ◌∷◌, [], ◌≤◌, sym
 use Rattle.std.specs.List.{All}
 use Rattle.std.proofs.lemmas.List.Elements.{All-push}
 use Rattle.mill_model.specs.Instance.{IsOrder}
-use Rattle.log_checker.proofs.tests.orders_of.Goals as goal
+use Rattle.log_trials.proofs.trials.orders_of.Goals as goal
 
 pub loop-weight-preserved : goal.loop-weight-preserved
 loop-weight-preserved c =

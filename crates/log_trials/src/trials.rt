@@ -1,7 +1,7 @@
 //! Verdicts on logs: by hand, by a plain reading of the definitions, and on what a stranger may
 //! send.
 
-ghost use Rattle.std.specs.Prelude.{◌≡◌, ◌≤◌, ◌+◌, length, All, IfOk};
+ghost use Rattle.std.specs.Prelude.{All, IfOk};
 ghost use Rattle.mill_model.specs.Instance.{IsOrder};
 
 mod by_hand;
@@ -9,8 +9,9 @@ mod hostile;
 mod mutated;
 mod plain;
 
-use super::*;
-use mill_model::{Charges, Instance, MAX_ORDERS, Order, OutOfMemory};
+use log_checker::{LogVerdict, check_log};
+use loss_table::loss_charges;
+use mill_model::{Instance, MAX_ORDERS, Order, OutOfMemory};
 use refute_log::{Log, parse_log};
 use std::alloc::Global;
 
@@ -140,18 +141,6 @@ fn orders_of(alloc: Global, list: &[(u32, u16)]) -> Result<Vec<Order>, OutOfMemo
     Ok(orders)
 }
 
-/// The charges of the loads up to the one size: what is left of it.
-fn charges_of(alloc: Global, size: u32) -> Result<Charges, OutOfMemory>
-    requires { size ≤ 20000 }
-    ensures { IfOk result (λ charges. length charges ≡ size + 1) }
-{
-    let mut table = vec![in alloc; 0]?;
-    for load in 0..size {
-        table.push(u64::from(size - 1 - load))?;
-    }
-    Ok(Charges::from_list(table))
-}
-
 /// The verdict on a log; none where it is a log of another number of orders.
 fn verdict_on(alloc: Global, case: Case, log: &Log) -> Result<Option<LogVerdict>, OutOfMemory> {
     let orders = orders_of(alloc, case.orders)?;
@@ -159,10 +148,10 @@ fn verdict_on(alloc: Global, case: Case, log: &Log) -> Result<Option<LogVerdict>
         return Ok(None);
     }
     let instance = Instance::new(vec![in alloc; case.size]?, 0, orders, case.p.clamp(1, 8));
-    let charges = charges_of(alloc, case.size)?;
-    if instance.largest() != case.size || log.orders() as usize != instance.orders().len() {
+    if log.orders() as usize != instance.orders().len() {
         return Ok(None);
     }
+    let charges = loss_charges(alloc, &instance)?;
     Ok(Some(check_log(alloc, &instance, &charges, case.loss, log)?))
 }
 

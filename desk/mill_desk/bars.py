@@ -129,6 +129,7 @@ def bar_of(scale: Scale, slab: Slab, tint: dict[int, str], short: dict[str, str]
     """The bar of one slab."""
     problem, largest = scale.problem, scale.problem.sizes[-1]
     size = slab.size if slab.size is not None else largest
+    spare: tuple[str, str] | None
     if slab.is_heavy:
         spare = (scale.length(largest), scale.length(slab.load - largest))
     else:

@@ -15,7 +15,8 @@ EPILOG = '''The same names stand in a file desk.toml beside the orders, as in
   sizes = "12; 14.5; 17"
   colours-per-slab = 2
 An option wins over the file. Sizes may also be a sheet named sizes.
-Status: 0, 1 and 4 to 9 as the program; 2 wrong words; 3 a table to mend; 70 a fault of the desk.'''
+Status: 0, 1 and 4 to 9 as the program; 2 wrong words; 3 a table to mend;
+70 a fault of the desk.'''
 
 
 def add_program(parser: ArgumentParser) -> None:
@@ -56,11 +57,13 @@ def add_output(parser: ArgumentParser) -> None:
 
 def parser_of() -> ArgumentParser:
     """The parser of all words."""
-    parser = ArgumentParser(prog='desk', epilog=EPILOG, formatter_class=RawDescriptionHelpFormatter,
+    parser = ArgumentParser(prog='desk', epilog=EPILOG,
+                            formatter_class=RawDescriptionHelpFormatter,
                             description='From a spreadsheet of orders to a plan of slabs.')
     commands = parser.add_subparsers(dest='command', required=True, metavar='COMMAND')
 
     def command(name: str, text: str, *parts: Callable[[ArgumentParser], None]) -> ArgumentParser:
+        """The parser of one command."""
         made = commands.add_parser(name, help=text, description=text, epilog=EPILOG,
                                    formatter_class=RawDescriptionHelpFormatter)
         for part in parts:
@@ -74,7 +77,8 @@ def parser_of() -> ArgumentParser:
     made.add_argument('plan', type=Path, metavar='PLAN', help='a table with order and slab')
     made = command('compare', 'Put two plans side by side.', add_table)
     made.add_argument('plans', type=Path, nargs=2, metavar='PLAN')
-    made = command('what-if', 'Tell what other sizes or colours would lose.', add_table, add_search)
+    made = command('what-if', 'Tell what other sizes or colours would lose.', add_table,
+                   add_search)
     made.add_argument('--add-size', action='append', metavar='SIZE', default=[])
     made.add_argument('--prove', action='store_true', help='ask for proofs, and verify them')
     for name, text in (('show', 'Make the pages for the program\'s own texts.'),

@@ -86,7 +86,8 @@ def read_texts(instance: Path, answer: Path | None) -> Texts:
 
 def words_of(text: bytes) -> list[Word]:
     """The words of a text."""
-    words, line, line_start, place = [], 1, 0, 0
+    words: list[Word] = []
+    line, line_start, place = 1, 0, 0
     for found in re.finditer(rb'[^ \t\n\r]+', text):
         passed = text[line_start:found.start()]
         if b'\n' in passed:
@@ -235,7 +236,8 @@ def of_line(texts: Texts, words: list[Word], number: int, sentence: str) -> str:
     lines = texts.answer_text.split('\n')
     orders = int(words[int(words[0].text) + 2].text)
     if number > len(lines) or (number == len(lines) and not lines[-1]):
-        return f'{sentence} The answer ends before it; it is to be {expected(lines, number, orders)}.'
+        return (f'{sentence} The answer ends before it; it is to be '
+                f'{expected(lines, number, orders)}.')
     line = lines[number - 1]
     shown = line if len(line) <= 60 else line[:57] + '..'
     why = slip_of(line, number, orders)
@@ -253,7 +255,7 @@ def expected(lines: list[str], number: int, orders: int) -> str:
     if number == 2:
         return '`loss L`'
     if number == 3:
-        return (f'`plan` and {plural(orders, "slab number")} from 1 to {orders}, one for each order')
+        return f'`plan` and {plural(orders, "slab number")} from 1 to {orders}, one for each order'
     if first == 'feasible':
         return '`spent N`' if number == 4 else '`end`, with only white space behind it'
     if number == 4:

@@ -1,7 +1,7 @@
 """What a log says, record by record, computed from docs/definitions.md by plain enumeration.
 
-This is the desk's explanation; the verdict on a log is `verify`'s alone. Prices are judged over all
-sets of open orders, so only where at most twelve are open.
+This is the desk's explanation; the verdict on a log is `verify`'s alone. Prices are judged over
+all sets of open orders, so only where at most twelve are open.
 """
 
 from collections import Counter

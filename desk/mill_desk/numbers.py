@@ -34,6 +34,7 @@ class Mark(Enum):
 
 
 def _pattern(mark: Mark) -> re.Pattern[str]:
+    """The texts that are numbers under a mark: sign, whole part (grouped or not), tail."""
     sign, group = re.escape(mark.sign), re.escape(mark.other.sign)
     whole = rf'[1-9]\d{{0,2}}(?:{group}\d{{3}})+|[1-9]\d{{0,2}}(?:[{_SPACES}]\d{{3}})+|\d+'
     return re.compile(rf'([+-]?)(?:({whole})(?:{sign}(\d+))?|{sign}(\d+))', re.ASCII)

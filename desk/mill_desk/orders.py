@@ -146,7 +146,8 @@ def read_weight(cell: Cell, mark: Mark | None) -> Fraction | Fault:
     """The weight in a cell, which is above 0; under either mark where the column's isn't known."""
     if cell.trouble:
         return Fault(cell.place, *cell.trouble)
-    values = [read_number(cell.text, one) for one in ([mark] if mark else Mark)]
+    marks = [mark] if mark else list(Mark)
+    values = [read_number(cell.text, one) for one in marks]
     value = cell.number if cell.number is not None else \
         next((value for value in values if value is not None), None)
     if value is None:

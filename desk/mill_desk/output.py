@@ -1,7 +1,7 @@
 """Writes the files of a run as one: all of them, or none.
 
-They are made in a folder beside the one that is asked for, and renamed when all are right. A folder
-that holds files of others is refused.
+They are made in a folder beside the one that is asked for, and renamed when all are right. A
+folder that holds files of others is refused.
 """
 
 import os

@@ -1,4 +1,4 @@
-"""Colours for pages and pictures: hues evenly round the OKLCH circle, neighbours apart in lightness.
+"""Colours for pages and pictures: hues round the OKLCH circle, neighbours apart in lightness.
 
 Dark ink reads on each of them. Past 24 colours hues repeat, and labels tell them apart.
 """
@@ -36,7 +36,7 @@ def from_oklab(lightness: float, a: float, b: float) -> str:
 def channel_byte(value: float) -> int:
     """A linear channel as a byte of sRGB."""
     value = min(1.0, max(0.0, value))
-    curved = 12.92 * value if value <= 0.0031308 else 1.055 * value ** (1 / 2.4) - 0.055
+    curved = 12.92 * value if value <= 0.0031308 else 1.055 * math.pow(value, 1 / 2.4) - 0.055
     return round(255 * curved)
 
 

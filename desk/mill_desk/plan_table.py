@@ -66,7 +66,7 @@ def row_faults(order: Cell, slab: Cell, known: set[str],
 
 def missing_faults(problem: Problem, found: dict[str, tuple[str, int]],
                    faults: list[Fault]) -> list[Fault]:
-    """The orders that the plan doesn't have; those of rows with another fault aren't told twice."""
+    """The orders that the plan doesn't have, where its rows have no other fault."""
     missing = [order.id for order in problem.orders if order.id not in found]
     if not missing or faults:
         return []

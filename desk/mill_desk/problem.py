@@ -20,7 +20,7 @@ MOST_STEPS = 20_000
 
 @dataclass(frozen=True)
 class Order:
-    """An order: its weight in the unit of the table and in steps, its colour's number, its cell."""
+    """An order. `weight` is in the unit of the table; `place` is the cell of the weight."""
 
     id: str
     weight: Fraction
@@ -116,12 +116,16 @@ def what_was_read(problem: Problem) -> str:
     heavy = max(orders, key=lambda order: order.weight)
     sizes = [problem.amount(size) for size in problem.sizes]
     listed = f'{sizes[0]}' if len(sizes) == 1 else f'from {show(problem.sizes[0])} to {sizes[-1]}'
-    text = (f'{plural(len(orders), "order")} of {plural(len(problem.colours), "colour")}, together '
-            f'{problem.amount(problem.weight)}; the lightest weighs {problem.amount(light.weight)} '
-            f'({light.place}), the heaviest {problem.amount(heavy.weight)} ({heavy.place}); '
-            f'{plural(len(sizes), "size")}, {listed}; at most '
-            f'{plural(problem.limit, "colour")} a slab; one step is {problem.amount(problem.step)}')
-    return text + (', weights rounded up and sizes down to it' if problem.rounded else '')
+    parts = [
+        f'{plural(len(orders), "order")} of {plural(len(problem.colours), "colour")}, together '
+        f'{problem.amount(problem.weight)}',
+        f'the lightest weighs {problem.amount(light.weight)} ({light.place}), the heaviest '
+        f'{problem.amount(heavy.weight)} ({heavy.place})',
+        f'{plural(len(sizes), "size")}, {listed}',
+        f'at most {plural(problem.limit, "colour")} a slab',
+        f'one step is {problem.amount(problem.step)}'
+        + (', weights rounded up and sizes down to it' if problem.rounded else '')]
+    return '; '.join(parts)
 
 
 def problem_of_instance(text: str, name: str, limit: int) -> Problem:

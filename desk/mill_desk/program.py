@@ -1,7 +1,7 @@
 """Finds and runs the program. No child outlives the desk, and the desk starts no proof.
 
-The program takes an instance (and an answer behind it) on standard input and answers with lines and
-a status. `--program FILE` names another program; what it says is then only what it says.
+The program takes an instance (and an answer behind it) on standard input and answers with lines
+and a status. `--program FILE` names another program; what it says is then only what it says.
 """
 
 import ctypes
@@ -99,6 +99,7 @@ def start(command: Path, words: list[str], source: BinaryIO,
     prctl = getattr(libc, 'prctl', None)
 
     def die_with_the_desk() -> None:
+        """Asks the system to end the program with the desk."""
         if prctl is not None:
             prctl(PARENT_DEATH_SIGNAL, signal.SIGKILL)
 
@@ -168,9 +169,9 @@ def find_program(asked: str | None, top: Path = TOP) -> Program:
 def not_built(wrapper: Path, why: str) -> str:
     """What to do where the program isn't built."""
     return (f'The program {why}. The desk starts no proof by itself: run\n  {wrapper} solve '
-            f'< {wrapper.parent}/examples/three-orders.txt\nonce. It proves and builds the program '
-            '(some 10 to 20 minutes, all processors; it needs the kit). Or name a program by '
-            '--program FILE.')
+            f'< {wrapper.parent}/examples/three-orders.txt\nonce. It proves and builds the '
+            'program (some 10 to 20 minutes, all processors; it needs the kit). Or name a program '
+            'by --program FILE.')
 
 
 def needs_building(top: Path, binary: Path) -> str | None:
@@ -202,6 +203,7 @@ def hashed(text: str | bytes) -> str:
 def stop_on_signals() -> None:
     """Lets the signals that end the desk clear up first, as Ctrl-C does."""
     def stop(number: int, _frame: object) -> None:
+        """Ends as Ctrl-C does."""
         raise KeyboardInterrupt(number)
 
     for number in (signal.SIGTERM, signal.SIGHUP):

@@ -96,7 +96,8 @@ def priced_words(tree: LogTree, record: Record) -> Words:
         text += 'No legal slab of open orders alone is paid more than it loses. '
     else:
         names = ', '.join(order.id for order in priced.overpaid)
-        text += f'But a slab of {names} alone is paid more than it loses, so the prices aren\'t valid. '
+        text += (f'But a slab of {names} alone is paid more than it loses, so the prices aren\'t '
+                 'valid. ')
     slacks = ', '.join(f'slab {group} {slack}' for group, slack in priced.slacks.items())
     if slacks:
         text += f'The least that begun slabs lose beyond the prices of what joins them: {slacks}. '

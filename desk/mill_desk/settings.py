@@ -55,6 +55,7 @@ class Settings:
 def whole(least: int, most: int) -> Callable[[str], int]:
     """Reads a whole number within a range."""
     def read(text: str) -> int:
+        """The number."""
         digits = re.sub(r'[ ,_\u202f]', '', text)
         if not re.fullmatch(r'[0-9]{1,12}', digits) or not least <= int(digits) <= most:
             raise WrongValue(f'must be a whole number from {least} to {most:,}')

@@ -23,6 +23,10 @@ from mill_desk.trouble import DeskFault, Exit, Trouble
 from mill_desk.wording import Case, Verdict, line_sentence, read_line, verdict
 
 
+ABOUT_LOGS = ('verified loss L', 'rejected missing k g1 .. gk', 'rejected stray k g1 .. gk',
+              'rejected unsound k g1 .. gk')
+
+
 @dataclass(frozen=True)
 class Judged:
     """Two texts that the program read, and what it said of them."""
@@ -122,8 +126,7 @@ def show_tree(program: Program, instance: Path, answer: Path, settings: Settings
 def refuse_doubt(tree: LogTree, run: Run) -> None:
     """Ends the command where the desk's own reading of the log differs from `verify`'s."""
     line = read_line(run.line)
-    about_log = line is not None and line.form.split()[1] in ('loss', 'missing', 'stray', 'unsound') \
-        and line.form != 'rejected loss stated A found B'
+    about_log = line is not None and line.form in ABOUT_LOGS
     unclear = any(tree.is_sound(record) is None for record in tree.records.values())
     if about_log and not unclear and tree.verify_line() != run.line:
         raise DeskFault(f'it reads the log as {tree.verify_line()}, and verify said: {run.line}')

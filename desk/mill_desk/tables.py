@@ -182,7 +182,8 @@ def too_long(row: Row, columns: int, separator: str) -> Fault:
     if separator == ',':
         mend = 'a decimal comma or a comma in a text may have been taken for a separator; ' + \
             'save it with semicolons, or as .xlsx'
-    return Fault(f'row {row.number}', f'has {len(row.cells)} cells, and the header {columns}', mend)
+    return Fault(f'row {row.number}', f'has {len(row.cells)} cells, and the header {columns}',
+                 mend)
 
 
 def odd_sign(text: str) -> str | None:

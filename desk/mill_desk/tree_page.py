@@ -99,7 +99,7 @@ class Drawing:
         return below
 
     def root(self) -> Box | None:
-        """The box of the empty path, with all others below; strays without a parent are left out."""
+        """The box of the empty path, with all others below; a stray without a parent has none."""
         folds = deepest(self.paths, MOST_AT_FIRST) if len(self.paths) > MOST_UNFOLDED else None
         boxes: dict[Path, Box] = {}
         for path in self.paths:
@@ -120,7 +120,8 @@ class Drawing:
         joins = '' if not path else \
             f'slab {path[-1]}' if path[-1] in path[:-1] else f'new slab {path[-1]}'
         groups = list(self.tree.ranking.groups(path).values())
-        return Box(self.numbers[path], kind, words.label, joins, tuple(self._slab(orders) for orders in groups[:BOX_ROWS]),
+        slabs = tuple(self._slab(orders) for orders in groups[:BOX_ROWS])
+        return Box(self.numbers[path], kind, words.label, joins, slabs,
                    max(0, len(groups) - BOX_ROWS), target, self.below[path],
                    is_cut=len(path) == self.depth and self.below[path] > 0)
 

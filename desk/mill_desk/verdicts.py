@@ -97,7 +97,8 @@ def further_lines(problem: Problem, slabs: Sequence[Slab]) -> list[str]:
     wrong = [slab for slab in slabs if not slab.is_legal]
     if len(wrong) > 1:
         listed = ', '.join(f'{slab.name} ({why_illegal(problem, slab)})' for slab in wrong)
-        lines.append(f'The desk\'s own count finds {len(wrong)} slabs that aren\'t legal: {listed}.')
+        lines.append(f'The desk\'s own count finds {len(wrong)} slabs that aren\'t legal: '
+                     f'{listed}.')
     if problem.rounded and not wrong:
         lines.append(ROUNDED.format(step=problem.amount(problem.step),
                                     true=problem.amount(totals_of(slabs).loss)))

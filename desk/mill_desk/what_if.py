@@ -79,7 +79,7 @@ def what_if(program: Program, orders: Path, settings: Settings, sizes: Sequence[
     say(f'Read {what_was_read(problem)}.')
     if not program.is_ours:
         say(f'{program.name} answers; nothing is claimed for it.')
-    rows = [HEADERS]
+    rows: list[tuple[str, ...]] = [HEADERS]
     print_row(HEADERS)
     for variant in variants:
         row = row_of(program, orders, settings, variant, prove)

@@ -1,8 +1,8 @@
 """Every line and status of the program as a sentence, in one table.
 
 The forms are those of docs/formats.md, to the letter; a test reads them out of that page, so a new
-line without a sentence fails. `VERDICTS` puts the same claims in the words of a table of orders: never
-more than the program said, and no theorem where another program spoke.
+line without a sentence fails. `VERDICTS` puts the same claims in the words of a table of orders:
+never more than the program said, and no theorem where another program spoke.
 """
 
 import re
@@ -14,22 +14,23 @@ from functools import cache
 LINES: dict[str, str] = {
     'legal loss L': 'Each slab is legal, and the plan loses {L}, as it states. This says nothing '
                     'of other plans.',
-    'verified loss L': 'The plan is legal, it loses {L}, and its log refutes every plan that loses '
-                       'less: none does.',
-    'confirmed infeasible order I': 'Order {I} is the first that is heavier than the largest size, '
-                                    'so there is no legal plan.',
+    'verified loss L': 'The plan is legal, it loses {L}, and its log refutes every plan that '
+                       'loses less: none does.',
+    'confirmed infeasible order I': 'Order {I} is the first that is heavier than the largest '
+                                    'size, so there is no legal plan.',
     'rejected heavy slab S load W': 'Slab {S} weighs {W}, more than the largest size. It is the '
                                     'lowest slab that isn\'t legal.',
     'rejected colourful slab S colours C': 'Slab {S} has {C} colours, more than a slab may carry. '
                                            'It is the lowest slab that isn\'t legal.',
     'rejected loss stated A found B': 'The plan is legal, but it states a loss of {A} and loses '
                                       '{B}.',
-    'rejected order stated I found J': 'The answer names order {I} as the first that is too heavy; '
-                                       'it is order {J} (0: none is).',
-    'rejected missing k g1 .. gk': 'The log has no record of the path {k}, and needs one. The path '
-                                   'is the first that is wrong.',
-    'rejected stray k g1 .. gk': 'The log has a record of the path {k}, which is neither the empty '
-                                 'path nor a child of a split one. It is the first that is wrong.',
+    'rejected order stated I found J': 'The answer names order {I} as the first that is too '
+                                       'heavy; it is order {J} (0: none is).',
+    'rejected missing k g1 .. gk': 'The log has no record of the path {k}, and needs one. The '
+                                   'path is the first that is wrong.',
+    'rejected stray k g1 .. gk': 'The log has a record of the path {k}, which is neither the '
+                                 'empty path nor a child of a split one. It is the first that is '
+                                 'wrong.',
     'rejected unsound k g1 .. gk': 'The log\'s record of the path {k} doesn\'t hold up. It is the '
                                    'first that is wrong.',
     'refused long L': 'The input has more than {L} bytes, the most that the command reads.',
@@ -44,8 +45,8 @@ LINES: dict[str, str] = {
     'refused answer line N not rising': 'Line {N} of the answer is a record whose path doesn\'t '
                                         'come after the one before.',
     'refused answer count stated A found B': 'The log states {A} records and has {B}.',
-    'refused answer kind': 'There is nothing to verify: the answer is feasible, or optimal without '
-                           'a log.',
+    'refused answer kind': 'There is nothing to verify: the answer is feasible, or optimal '
+                           'without a log.',
     'optimal': 'It claims a legal plan, and that no legal plan loses less.',
     'feasible': 'It claims a legal plan; the budget ended first, so a better one may exist.',
     'infeasible': 'It claims that there is no legal plan: an order is heavier than the largest '
@@ -58,10 +59,10 @@ LINES: dict[str, str] = {
     'log 1 R': 'A log of version 1 with {R} records follows; together they refute every cheaper '
                'plan.',
     'end': 'The answer ends here.',
-    'S k g1 .. gk': 'Split: at the path {k} the next order goes on each group that stays legal, or '
-                    'on a new one, and each of these cases has a record.',
-    'L k g1 .. gk': 'Leaf: the path {k} places every order, and its plan loses at least as much as '
-                    'the answer\'s.',
+    'S k g1 .. gk': 'Split: at the path {k} the next order goes on each group that stays legal, '
+                    'or on a new one, and each of these cases has a record.',
+    'L k g1 .. gk': 'Leaf: the path {k} places every order, and its plan loses at least as much '
+                    'as the answer\'s.',
     'P k g1 .. gk y1 .. ym': 'Priced: prices of the open orders show that no plan under this path '
                              'loses less than the answer\'s.',
     'D k g1 .. gk h1 .. hk': 'Dominated: another path of the same length is at least as good.',
@@ -160,11 +161,11 @@ OF_OTHERS: dict[Case, tuple[str, str]] = {
     Case.NO_LOSS: ('The plan loses nothing, so none is better.', ''),
     Case.LEGAL: ('{program} says that the plan is legal and loses {loss}.', ''),
 }
-NO_CLAIM = ('That program wasn\'t built by ./mill_slab, so nothing is claimed for it. The desk has '
-            'counted loads, colours and loss anew from the table.')
+NO_CLAIM = ('That program wasn\'t built by ./mill_slab, so nothing is claimed for it. The desk '
+            'has counted loads, colours and loss anew from the table.')
 IN_ROUNDED = 'In the rounded numbers: '
-ROUNDED = ('Weights were rounded up and sizes down to steps of {step}. Every claim but the plan\'s '
-           'legality is about the rounded numbers; in the true ones the plan loses {true}.')
+ROUNDED = ('Weights were rounded up and sizes down to steps of {step}. Every claim but the plan\''
+           's legality is about the rounded numbers; in the true ones the plan loses {true}.')
 
 
 @dataclass(frozen=True)

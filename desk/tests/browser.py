@@ -52,8 +52,8 @@ class Browser:
 
     def texts(self, select: str) -> list[str]:
         """The texts of the elements that are selected."""
-        return list(self.run('[...document.querySelectorAll(arguments[0])].map(e => e.textContent)',
-                             select))
+        return list(self.run('[...document.querySelectorAll(arguments[0])]'
+                             '.map(e => e.textContent)', select))
 
     def messages(self) -> list[str]:
         """What the console was told."""

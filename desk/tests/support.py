@@ -33,7 +33,8 @@ PACKAGES: dict[str, tuple[str, Callable[[], bool]]] = {
     'chromium': ('chromium', lambda: Path('/usr/bin/chromium').exists()),
     'chromedriver': ('chromium-driver', lambda: Path('/usr/bin/chromedriver').exists()),
     'soffice': ('libreoffice-calc-nogui', lambda: shutil.which('soffice') is not None),
-    'program': ('the program of ./mill_slab, which isn\'t built', lambda: real_program() is not None),
+    'program': ('the program of ./mill_slab, which isn\'t built',
+                lambda: real_program() is not None),
 }
 
 

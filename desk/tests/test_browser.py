@@ -89,8 +89,9 @@ class Pages(unittest.TestCase):
                          'document.getElementById("find").oninput())')
         self.assertEqual(self.visible('.orders tbody tr'), 60)
         self.browser.click('.legend button:nth-of-type(3)')
-        shown = self.browser.run('[...document.querySelectorAll("#slabs .row")].filter(e => '
-                                 'e.offsetParent).map(e => !!e.querySelector("[data-colour=\'3\']"))')
+        shown = self.browser.run(
+            '[...document.querySelectorAll("#slabs .row")].filter(e => e.offsetParent)'
+            '.map(e => !!e.querySelector("[data-colour=\'3\']"))')
         self.assertTrue(shown and all(shown))
         self.assertLess(len(shown), len(self.browser.texts('#slabs .row')))
         self.browser.click('.legend button:nth-of-type(3)')
@@ -134,7 +135,8 @@ class Pages(unittest.TestCase):
     def test_no_sideways_scrolling_on_a_phone(self) -> None:
         for path in (self.example(), self.tree(five()), self.compare()):
             self.browser.open(path, 420, 900)
-            self.assertLessEqual(self.browser.run('document.documentElement.scrollWidth'), 420, path)
+            wide = self.browser.run('document.documentElement.scrollWidth')
+            self.assertLessEqual(wide, 420, path)
 
     def compare(self) -> Path:
         """The page that compares two plans."""
@@ -157,8 +159,9 @@ class Pages(unittest.TestCase):
         path = self.plan(orders, '--sizes', '13; 20', '--colours-per-slab', '4')
         for page in (path, path.with_suffix('.svg')):
             self.browser.open(page)
-            self.assertEqual(self.browser.run('document.querySelectorAll("img, b > b, '
-                                              'script script, [onerror], [onmouseover]").length'), 0)
+            self.assertEqual(self.browser.run(
+                'document.querySelectorAll("img, b > b, script script, [onerror], '
+                '[onmouseover]").length'), 0)
             self.assert_silent(page)
         self.browser.open(path)
         self.assertEqual(self.browser.run('document.querySelectorAll("script").length'), 1)

@@ -30,16 +30,17 @@ INSTANCES: dict[str, Told] = {
     'a word for a colour': Told('1 4\n3\n3\n1 red\n1 2\n2 3\n', 'refused instance byte 10',
         'Line 4, word 2 ("red") is to be the colour of order 1, and "r" is no digit.'),
     'a CSV': Told('Order;Weight;Colour\nA;1;2\n', 'refused instance byte 0',
-        'Line 1, word 1 ("Order;Weight;Colour") is to be the count of sizes, and "O" is no digit.'),
+        'Line 1, word 1 ("Order;Weight;Colour") is to be the count of sizes, and "O" is no '
+        'digit.'),
     'a minus': Told('1 4\n3\n3\n-1 1\n1 2\n2 3\n', 'refused instance byte 8',
         'Line 4, word 1 ("-1") is to be the weight of order 1, and "-" is no digit; numbers have '
         'no sign.'),
     'a byte order mark': Told(b'\xef\xbb\xbf1 4\n3\n0\n', 'refused instance byte 0',
-        'Line 1, word 1 ("\ufeff1") is to be the count of sizes, and "\\xef" is no digit; the file '
-        'begins with a byte order mark: save it as plain text without one.'),
+        'Line 1, word 1 ("\ufeff1") is to be the count of sizes, and "\\xef" is no digit; the '
+        'file begins with a byte order mark: save it as plain text without one.'),
     'a space that doesn\'t break': Told(b'1 4\n3\n3\n1\xc2\xa01\n', 'refused instance byte 9',
-        'Line 4, word 1 ("1\u00a01") is to be the weight of order 1, and "\\xc2" is no digit; there '
-        'is a space that doesn\'t break a line: type an ordinary one.'),
+        'Line 4, word 1 ("1\u00a01") is to be the weight of order 1, and "\\xc2" is no digit; '
+        'there is a space that doesn\'t break a line: type an ordinary one.'),
     'an order too few': Told('1 4\n3\n4\n1 1\n1 2\n2 3\n', 'refused instance short token 11',
         'The text ends after 10 numbers; the next is to be the weight of order 4. Line 1 says 1 '
         'size and line 3 says 4 orders. Is a count too large, or was a number left out?'),
@@ -64,27 +65,27 @@ INSTANCES: dict[str, Told] = {
 }
 LINE = 'Line {} of the answer isn\'t as it must be, or is missing.'
 ANSWERS: dict[str, Told] = {
-    'no answer': Told(GOOD, 'refused answer line 1', f'{LINE.format(1)} The answer ends before it; '
-        'it is to be `optimal`, `feasible` or `infeasible`.', ''),
+    'no answer': Told(GOOD, 'refused answer line 1', f'{LINE.format(1)} The answer ends before '
+        'it; it is to be `optimal`, `feasible` or `infeasible`.', ''),
     'Windows line ends': Told(GOOD, 'refused answer line 1', f'{LINE.format(1)} There stands '
         '"optimal\r"; it is to be `optimal`, `feasible` or `infeasible`. It ends with a carriage '
         'return: take these out (tr -d \'\\r\').', ANSWER.replace('\n', '\r\n')),
     'a slab number too few': Told(GOOD, 'refused answer line 3', f'{LINE.format(3)} There stands '
-        '"plan 1 2"; it is to be `plan` and 3 slab numbers from 1 to 3, one for each order. It has '
-        '2 numbers for 3 orders.', 'optimal\nloss 4\nplan 1 2\nend\n'),
-    'a slab number too large': Told(GOOD, 'refused answer line 3', f'{LINE.format(3)} There stands '
-        '"plan 1 2 7"; it is to be `plan` and 3 slab numbers from 1 to 3, one for each order. Slab '
-        '7 isn\'t from 1 to 3.', 'optimal\nloss 4\nplan 1 2 7\nend\n'),
+        '"plan 1 2"; it is to be `plan` and 3 slab numbers from 1 to 3, one for each order. It '
+        'has 2 numbers for 3 orders.', 'optimal\nloss 4\nplan 1 2\nend\n'),
+    'a slab number too large': Told(GOOD, 'refused answer line 3', f'{LINE.format(3)} There '
+        'stands "plan 1 2 7"; it is to be `plan` and 3 slab numbers from 1 to 3, one for each '
+        'order. Slab 7 isn\'t from 1 to 3.', 'optimal\nloss 4\nplan 1 2 7\nend\n'),
 }
 REAL_ANSWERS: dict[str, Told] = {
-    'a loss that is no number': Told(GOOD, 'refused answer line 2', f'{LINE.format(2)} There stands '
-        '"loss x"; it is to be `loss L`.', 'optimal\nloss x\nplan 1 2 1\nend\n'),
+    'a loss that is no number': Told(GOOD, 'refused answer line 2', f'{LINE.format(2)} There '
+        'stands "loss x"; it is to be `loss L`.', 'optimal\nloss x\nplan 1 2 1\nend\n'),
     'a blank at the end': Told(GOOD, 'refused answer line 3', f'{LINE.format(3)} There stands '
         '"plan 1 2 1 "; it is to be `plan` and 3 slab numbers from 1 to 3, one for each order. '
         'Words stand one space apart, with none at either end.',
         'optimal\nloss 4\nplan 1 2 1 \nend\n'),
-    'no end': Told(GOOD, 'refused answer line 4', f'{LINE.format(4)} The answer ends before it; it '
-        'is to be `end`, or `log 1 R`.', 'optimal\nloss 4\nplan 1 2 1\n'),
+    'no end': Told(GOOD, 'refused answer line 4', f'{LINE.format(4)} The answer ends before it; '
+        'it is to be `end`, or `log 1 R`.', 'optimal\nloss 4\nplan 1 2 1\n'),
     'feasible without spent': Told(GOOD, 'refused answer line 4', f'{LINE.format(4)} There stands '
         '"end"; it is to be `spent N`.', 'feasible\nloss 4\nplan 1 2 1\nend\n'),
     'a record that doesn\'t rise': Told(GOOD, 'refused answer line 6 not rising',
@@ -95,8 +96,8 @@ REAL_ANSWERS: dict[str, Told] = {
     'a wrong count': Told(GOOD, 'refused answer count stated 3 found 1',
         'The log states 3 records and has 1.',
         'optimal\nloss 4\nplan 1 2 1\nlog 1 3\nS 0\nend\n'),
-    'something behind the end': Told(GOOD, 'refused answer line 6', f'{LINE.format(6)} There stands '
-        '"x"; it is to be white space only, behind `end`.', f'{ANSWER}\nx\n'),
+    'something behind the end': Told(GOOD, 'refused answer line 6', f'{LINE.format(6)} There '
+        'stands "x"; it is to be white space only, behind `end`.', f'{ANSWER}\nx\n'),
 }
 
 

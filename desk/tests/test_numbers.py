@@ -3,8 +3,8 @@
 import unittest
 from fractions import Fraction
 
-from mill_desk.numbers import (Mark, decide_mark, greatest_step, percent, plural, read_number, show,
-                               show_plain)
+from mill_desk.numbers import (Mark, decide_mark, greatest_step, percent, plural, read_number,
+                               show, show_plain)
 from mill_desk.trouble import Fault
 from tests.support import each, needs, spread
 
@@ -107,7 +107,8 @@ class Steps(unittest.TestCase):
         from hypothesis import given
         from hypothesis import strategies as some
 
-        fractions = some.fractions(min_value=Fraction(1, 1000), max_value=1000, max_denominator=1000)
+        fractions = some.fractions(min_value=Fraction(1, 1000), max_value=1000,
+                                   max_denominator=1000)
 
         @given(some.lists(fractions, min_size=1, max_size=6))
         def holds(values: list[Fraction]) -> None:

@@ -10,8 +10,8 @@ from tests.support import (EXAMPLES, STAND_IN, InFolder, desk, each, needs, spre
 
 SHEET = 'Order,Weight t,Colour\nA,7,red\nB,8,blue\nC,5,red\n'
 CHECKED = 'Order;Slab\nA;{}\nB;{}\nC;{}\n'
-OTHER = (f'{STAND_IN} said so. That program wasn\'t built by ./mill_slab, so nothing is claimed for '
-         'it. The desk has counted loads, colours and loss anew from the table.')
+OTHER = (f'{STAND_IN} said so. That program wasn\'t built by ./mill_slab, so nothing is claimed '
+         'for it. The desk has counted loads, colours and loss anew from the table.')
 
 
 class Plans(InFolder):
@@ -47,7 +47,8 @@ class Plans(InFolder):
         said = self.plan()
         self.assertTrue(said.startswith('Read 3 orders of 2 colours, together 20 t; the lightest'))
         self.assertIn(f'{STAND_IN} says that no legal plan loses less than 4 t.', said)
-        self.assertIn('2 slabs, 1 of them loses something; 24 t of steel, 16.67% of it lost.', said)
+        self.assertIn('2 slabs, 1 of them loses something; 24 t of steel, 16.67% of it lost.',
+                      said)
         self.assertIn('Written to ', said)
 
     def test_proved_is_verified(self) -> None:
@@ -114,8 +115,8 @@ class Plans(InFolder):
 
 
 FAULTS: dict[str, tuple[str, str]] = {
-    'an order twice': (CHECKED.format(1, 1, 1) + 'A;2\n', 'cell A5: the order id "A" stands in row '
-                       '2 too; an order goes on one slab'),
+    'an order twice': (CHECKED.format(1, 1, 1) + 'A;2\n', 'cell A5: the order id "A" stands in '
+                       'row 2 too; an order goes on one slab'),
     'an order of others': (CHECKED.format(1, 1, 1) + 'Z;2\n',
                            'cell A5: "Z" is none of the orders'),
     'an order missing': ('Order;Slab\nA;1\n', 'no row has order "B", "C"; each order goes on one '
@@ -151,8 +152,9 @@ class Checks(InFolder):
     def test_a_colourful_slab_with_the_colour_of_each(self) -> None:
         status, said = self.check(CHECKED.format('S2', 'S1', 'S1'), '--colours-per-slab', '1')
         self.assertEqual(status, 8)
-        self.assertIn('Slab S1 has 2 colours; at most 1 colour may share a slab. So the plan isn\'t '
-                      f'legal. Its orders: row 3, B: 8 t, blue; row 4, C: 5 t, red. {OTHER}', said)
+        self.assertIn('Slab S1 has 2 colours; at most 1 colour may share a slab. So the plan '
+                      'isn\'t legal. Its orders: row 3, B: 8 t, blue; row 4, C: 5 t, red. '
+                      f'{OTHER}', said)
 
     def test_further_slabs_are_told_as_the_desk_s_own_count(self) -> None:
         orders = self.write('orders.csv', 'Order,Weight,Colour\nA,7,x\nB,7,x\nC,7,x\nD,7,x\n')
@@ -198,8 +200,8 @@ class Compares(InFolder):
     def test_which_loses_less(self) -> None:
         status, said = self.compare(CHECKED.format(1, 2, 3), CHECKED.format('a', 'b', 'a'))
         self.assertEqual(status, 0)
-        self.assertIn('two.csv loses 12 t less. one.csv: 16 t on 3 slabs. two.csv: 4 t on 2 slabs. '
-                      'Both plans were judged legal by check.', said)
+        self.assertIn('two.csv loses 12 t less. one.csv: 16 t on 3 slabs. two.csv: 4 t on 2 '
+                      'slabs. Both plans were judged legal by check.', said)
         page = (self.folder / 'compare' / 'compare.html').read_text()
         self.assertIn('1 slab the same in both, 2 orders on slabs that differ', page)
 

@@ -37,11 +37,12 @@ FAILING: dict[str, tuple[str, int, int, str]] = {
     'the instance is refused': ('refused instance byte 0\n', 3, 70, 'The desk has a fault, and '
                                 'wrote nothing: the program refused the instance that it wrote. '
                                 'Byte 0 of the instance, counted from 0, is no digit.'),
-    'a plan that isn\'t legal': ('optimal\nloss 0\nplan 1 1 1\nend\n', 0, 70, 'its own count of the '
-                                 'plan differs from the program\'s: it finds 1 slab not legal'),
-    'another loss': ('optimal\nloss 3\nplan 1 2 1\nend\n', 0, 70, 'its own count of the plan differs '
-                     'from the program\'s: it finds 0 slabs not legal and a loss of 4 steps, the '
-                     'program says 3'),
+    'a plan that isn\'t legal': ('optimal\nloss 0\nplan 1 1 1\nend\n', 0, 70, 'its own count of '
+                                 'the plan differs from the program\'s: it finds 1 slab not '
+                                 'legal'),
+    'another loss': ('optimal\nloss 3\nplan 1 2 1\nend\n', 0, 70, 'its own count of the plan '
+                     'differs from the program\'s: it finds 0 slabs not legal and a loss of 4 '
+                     'steps, the program says 3'),
 }
 
 
@@ -84,8 +85,8 @@ sys.exit(subprocess.run([{str(STAND_IN)!r}] + sys.argv[1:]).returncode)
 ''')
         outcome = desk('plan', path, '--sizes', '13; 12', '--prove', program_path=other)
         self.assertEqual(outcome.status, 8)
-        self.assertIn('verify rejected what prove gave; nothing was written. The log has no record '
-                      'of the path 1', outcome.err)
+        self.assertIn('verify rejected what prove gave; nothing was written. The log has no '
+                      'record of the path 1', outcome.err)
 
     def test_words_that_are_not_served_are_named(self) -> None:
         path = self.write('orders.csv', SHEET)
@@ -122,7 +123,8 @@ class Finding(InFolder):
             find_program(None, self.repository())
         self.assertEqual(caught.exception.status, 126)
         told = str(caught.exception)
-        self.assertIn('The program isn\'t built yet. The desk starts no proof by itself: run', told)
+        self.assertIn('The program isn\'t built yet. The desk starts no proof by itself: run',
+                      told)
         self.assertIn('10 to 20 minutes', told)
 
     def test_a_program_that_is_older_than_a_source(self) -> None:
@@ -155,7 +157,8 @@ class Finding(InFolder):
 
     def test_the_wrapper_s_own_messages_are_passed_on(self) -> None:
         path = self.write('orders.csv', SHEET)
-        other = self.script('other', 'import sys\nprint("no kit", file=sys.stderr)\nsys.exit(127)\n')
+        other = self.script('other', 'import sys\nprint("no kit", file=sys.stderr)\n'
+                            'sys.exit(127)\n')
         done = launched('plan', path, '--sizes', '13', '--program', other)
         self.assertEqual(done.returncode, 127)
         self.assertTrue(done.stderr.startswith('no kit\n'), done.stderr)

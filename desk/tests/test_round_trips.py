@@ -90,7 +90,8 @@ class RoundTrips(InFolder):
     def test_a_csv_in_any_clothes_gives_one_instance(self) -> None:
         @QUICK
         @given(sheets_of_orders(), some.sampled_from(',;\t'), some.sampled_from('.,'),
-               some.sampled_from(['utf-8', 'utf-8-sig', 'utf-16']), some.sampled_from(['\n', '\r\n']))
+               some.sampled_from(['utf-8', 'utf-8-sig', 'utf-16']),
+               some.sampled_from(['\n', '\r\n']))
         def holds(sheet: Sheet, separator: str, mark: str, encoding: str, end: str) -> None:
             wanted = self.problem(sheet)
             path = self.write('other.csv', as_csv(sheet, separator, mark, encoding, end))

@@ -32,7 +32,8 @@ def csv(rows: str, *lines: str, options: tuple[str, ...] = SIZES) -> Spoilt:
 
 
 CSV: dict[str, Spoilt] = {
-    'an empty file': Spoilt('', ('the file is empty; it needs a header and a row for each order',)),
+    'an empty file': Spoilt('', (
+        'the file is empty; it needs a header and a row for each order',)),
     'a header alone': csv('', 'there is no order below the header'),
     'no separator': Spoilt('Order Weight Colour\nA 7 red\n', (
         f'row 1: no column is headed as the order id; name it by --id "HEADER"; {HEADERS}'
@@ -70,11 +71,11 @@ CSV: dict[str, Spoilt] = {
         'cell B2: the weight "1.200" may be 1.2 or 1200; say which: --decimal point or --decimal '
         'comma'),
     'both marks in a column': Spoilt('Order;Weight;Colour\nA;10,5;red\nB;7.5;red\n', (
-        'cell B3: the weight "7.5" has a decimal point and "10,5" (cell B2) a decimal comma; write '
-        'the whole column with one mark',)),
+        'cell B3: the weight "7.5" has a decimal point and "10,5" (cell B2) a decimal comma; '
+        'write the whole column with one mark',)),
     'a point where a comma is asked for': Spoilt('Order;Weight;Colour\nA;10.5;red\n', (
-        'cell B2: the weight "10.5" is no number with a decimal comma; write the whole column with '
-        'one mark',), (*SIZES, '--decimal', 'comma')),
+        'cell B2: the weight "10.5" is no number with a decimal comma; write the whole column '
+        'with one mark',), (*SIZES, '--decimal', 'comma')),
     'a unit in the cell': csv('A,7 t,red\n',
         'cell B2: the weight "7 t" has a unit in it; the unit belongs into the header'),
     'a percentage': csv('A,7%,red\n',
@@ -83,8 +84,8 @@ CSV: dict[str, Spoilt] = {
         'cell B2: the weight "03.04.2026" is a date; a spreadsheet makes one of 3-4; format the '
         'column as a number and type it again'),
     'a date in words': csv('A,3. Apr,red\n',
-        'cell B2: the weight "3. Apr" is a date; a spreadsheet makes one of 3-4; format the column '
-        'as a number and type it again'),
+        'cell B2: the weight "3. Apr" is a date; a spreadsheet makes one of 3-4; format the '
+        'column as a number and type it again'),
     'an exponent': csv('A,1E+01,red\n',
         'cell B2: the weight "1E+01" is written with an exponent; format the column as a number '
         'with all its digits'),
@@ -244,7 +245,8 @@ class SpoiltSheets(InFolder):
     def refuse(self, spoilt: Spoilt, where: str) -> None:
         path = self.write(spoilt.name, spoilt.content)
         outcome = desk('plan', path, *spoilt.options, '--out', self.folder / 'plan')
-        told = f'desk: {where} is to be mended:\n' + ''.join(f'  {line}\n' for line in spoilt.lines)
+        lines = ''.join(f'  {line}\n' for line in spoilt.lines)
+        told = f'desk: {where} is to be mended:\n{lines}'
         self.assertEqual((outcome.err, outcome.status, outcome.out), (told, 3, ''))
         self.assertEqual([entry.name for entry in self.folder.iterdir()], [spoilt.name])
 
@@ -268,10 +270,11 @@ class SpoiltSheets(InFolder):
 WORDS: dict[str, tuple[tuple[str, ...], str]] = {
     'no sizes': ((), 'no sizes are given: say --sizes "12; 14.5; 17", or write sizes = "12; 14.5; '
                      '17" in a file desk.toml beside the orders, or make a sheet named sizes'),
-    'sizes with commas alone': (('--sizes', '12,14'), '--sizes: "12,14" may be one size or several: '
-                                'write the sizes with semicolons between, as in "12; 14.5; 17"'),
-    'nodes that are no number': (('--nodes', 'many'), '--nodes: "many" must be a whole number from '
-                                 '0 to 1,000,000,000'),
+    'sizes with commas alone': (('--sizes', '12,14'), '--sizes: "12,14" may be one size or '
+                                'several: write the sizes with semicolons between, as in "12; 14.5; '
+                                '17"'),
+    'nodes that are no number': (('--nodes', 'many'), '--nodes: "many" must be a whole number '
+                                 'from 0 to 1,000,000,000'),
     'nine colours': (('--colours-per-slab', '9'), '--colours-per-slab: "9" must be a whole number '
                      'from 1 to 8'),
     'two budgets': (('--nodes', '5', '--minutes', '1'), '--nodes and --minutes are two budgets: '

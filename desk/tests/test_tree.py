@@ -74,16 +74,16 @@ BY_HAND: dict[str, tuple[str, str]] = {
 WORDS: dict[tuple[int, ...], tuple[str, str]] = {
     (): ('split', 'Split: order 1 goes on each begun slab that stays legal, or on a new one: 1 '
                   'case.'),
-    (1, 1): ('split', 'Split: order 3 goes on each begun slab that stays legal, or on a new one: 1 '
-                      'case. Not possible: slab 1 would weigh 10, more than 7.'),
-    (1, 2): ('split', 'Split: order 3 goes on each begun slab that stays legal, or on a new one: 2 '
-                      'cases. Not possible: slab 1 comes before slab 2 of the equal order 2, and '
-                      'equal orders come in rising groups.'),
+    (1, 1): ('split', 'Split: order 3 goes on each begun slab that stays legal, or on a new one: '
+                      '1 case. Not possible: slab 1 would weigh 10, more than 7.'),
+    (1, 2): ('split', 'Split: order 3 goes on each begun slab that stays legal, or on a new one: '
+                      '2 cases. Not possible: slab 1 comes before slab 2 of the equal order 2, '
+                      'and equal orders come in rising groups.'),
     (1, 1, 2, 2): ('≥ 3', 'Priced, in sixtieths of a unit of loss: order 4 180. No legal slab of '
-                          'open orders alone is paid more than it loses. The least that begun slabs '
-                          'lose beyond the prices of what joins them: slab 1 0, slab 2 0. Prices '
-                          'and least slacks together, the worth, are 180, which is more than 60 (1 '
-                          '- 1) = 0: every plan under this path loses at least 3.'),
+                          'open orders alone is paid more than it loses. The least that begun '
+                          'slabs lose beyond the prices of what joins them: slab 1 0, slab 2 0. '
+                          'Prices and least slacks together, the worth, are 180, which is more '
+                          'than 60 (1 - 1) = 0: every plan under this path loses at least 3.'),
 }
 
 
@@ -113,8 +113,8 @@ class ByHand(InFolder):
         tree = tree_of(THREE, text_of(4, '1 2 1', THREE_LOG))
         words = words_of(tree, (1, 2, 2))
         self.assertEqual(words.label, 'loses 4 = best')
-        self.assertEqual(words.text, 'Leaf: every order has its slab. The plan loses 2 (slab 1) + 2 '
-                         '(slab 2) = 4, which is not less than 4.')
+        self.assertEqual(words.text, 'Leaf: every order has its slab. The plan loses 2 (slab 1) + '
+                         '2 (slab 2) = 4, which is not less than 4.')
 
     def test_an_unsound_leaf_in_words(self) -> None:
         tree = tree_of(THREE, text_of(5, '1 2 1', THREE_LOG))
@@ -275,7 +275,8 @@ class Pages(InFolder):
         self.assertIn('Missing: this case of a split has no record.', page)
 
     def test_a_doubt_ends_with_a_fault_of_the_desk(self) -> None:
-        liar = self.script('liar', 'import sys\nsys.stdin.buffer.read()\nprint("verified loss 1")\n')
+        liar = self.script('liar', 'import sys\nsys.stdin.buffer.read()\n'
+                           'print("verified loss 1")\n')
         outcome = desk('tree', self.write('instance.txt', FIVE),
                        self.write('answer.txt', five(('P 4 1 1 2 3 0', ''))), '--out',
                        self.folder / 'tree', program_path=liar)

@@ -148,8 +148,9 @@ def read_weight(cell: Cell, mark: Mark | None) -> Fraction | Fault:
         return Fault(cell.place, *cell.trouble)
     marks = [mark] if mark else list(Mark)
     values = [read_number(cell.text, one) for one in marks]
-    value = cell.number if cell.number is not None else \
-        next((value for value in values if value is not None), None)
+    value = cell.number
+    if value is None:
+        value = next((found for found in values if found is not None), None)
     if value is None:
         if mark and read_number(cell.text, mark.other) is not None:
             return Fault(cell.place, f'the weight "{cell.text}" is no number with a decimal '

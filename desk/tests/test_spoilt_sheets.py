@@ -271,8 +271,8 @@ WORDS: dict[str, tuple[tuple[str, ...], str]] = {
     'no sizes': ((), 'no sizes are given: say --sizes "12; 14.5; 17", or write sizes = "12; 14.5; '
                      '17" in a file desk.toml beside the orders, or make a sheet named sizes'),
     'sizes with commas alone': (('--sizes', '12,14'), '--sizes: "12,14" may be one size or '
-                                'several: write the sizes with semicolons between, as in "12; 14.5; '
-                                '17"'),
+                                'several: write the sizes with semicolons between, as in "12; '
+                                '14.5; 17"'),
     'nodes that are no number': (('--nodes', 'many'), '--nodes: "many" must be a whole number '
                                  'from 0 to 1,000,000,000'),
     'nine colours': (('--colours-per-slab', '9'), '--colours-per-slab: "9" must be a whole number '

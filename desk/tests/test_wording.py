@@ -99,7 +99,8 @@ class Sentences(unittest.TestCase):
 
 VALUES = {'loss': '4 t', 'spent': '7 nodes', 'records': '8 records', 'first': 'Order A',
           'weight': '9 t', 'top': '8 t', 'all': 'A 9 t', 'slab': 'B', 'rows': 'row 2',
-          'colours': '3', 'limit': '2 colours', 'stated': '3 t', 'sentence': 'It says x.', 'line': 'x'}
+          'colours': '3', 'limit': '2 colours', 'stated': '3 t', 'sentence': 'It says x.',
+          'line': 'x'}
 CLAIMS = ('theorem', 'proved')
 
 

@@ -174,7 +174,7 @@ def tree_page(problem: Problem, tree: LogTree, verdict: Verdict, facts: Sequence
     texts = [f'Path {path_text(path)}. {words_of(tree, path).text}' for path in drawing.paths]
     return render('tree.html', title=problem.name, subtitle=subtitle(problem, ()),
                   verdict=verdict, legend=legend, columns=columns_of(tree, problem), root=root,
-                  texts=texts, rows=min(rows, BOX_ROWS), facts=facts,
+                  texts=texts, rows=min(rows, BOX_ROWS + 1), facts=facts,
                   count=plural(len(tree.records), 'record'), loss=show(tree.loss),
                   is_folded=len(drawing.paths) > MOST_UNFOLDED,
                   left_out=len(tree.records) + len(tree.missing) - len(drawing.paths))

@@ -11,7 +11,8 @@
   var now = -1;
 
   function fold(node, folded) {
-    var kids = node.querySelector(':scope > .kids'), button = node.querySelector(':scope > .cell > .fold');
+    var kids = node.querySelector(':scope > .kids');
+    var button = node.querySelector(':scope > .cell > .fold');
     if (!kids) { return; }
     kids.hidden = folded;
     button.setAttribute('aria-expanded', !folded);
@@ -30,12 +31,13 @@
       if (!other || !from.width) { return; }
       var to = other.querySelector('.box').getBoundingClientRect();
       if (!to.width) { return; }
-      var up = to.top < from.top, x = from.right - frame.left - 30, z = to.right - frame.left - 30;
-      var y = (up ? from.top : from.bottom) - frame.top, end = (up ? to.bottom : to.top) - frame.top;
-      var out = Math.max(x, z) + 62;
+      var up = to.top < from.top, x = from.right - frame.left, z = to.right - frame.left;
+      var y = (up ? from.top + 12 : from.bottom - 12) - frame.top;
+      var end = (up ? to.bottom - 14 : to.top + 14) - frame.top;
+      var out = Math.max(x, z) + 46;
       var path = document.createElementNS('http://www.w3.org/2000/svg', 'path');
       path.setAttribute('class', 'link' + (node.classList.contains('later') ? ' later' : ''));
-      path.setAttribute('d', 'M' + x + ' ' + y + 'C' + out + ' ' + y + ' ' + out + ' ' + end + ' ' + z + ' ' + end);
+      path.setAttribute('d', 'M' + [x, y] + 'C' + [out, y, out, end, z, end].join(' '));
       path.setAttribute('marker-end', 'url(#tip)');
       svg.appendChild(path);
     });

@@ -79,8 +79,8 @@ WORDS: dict[tuple[int, ...], tuple[str, str]] = {
     (1, 2): ('split', 'Split: order 3 goes on each begun slab that stays legal, or on a new one: '
                       '2 cases. Not possible: slab 1 comes before slab 2 of the equal order 2, '
                       'and equal orders come in rising groups.'),
-    (1, 1, 2, 2): ('≥ 3', 'Priced, in sixtieths of a unit of loss: order 4 180. No legal slab of '
-                          'open orders alone is paid more than it loses. The least that begun '
+    (1, 1, 2, 2): ('≥ 3', 'Priced, in sixtieths of a unit of loss: order 4 180. No legal slab '
+                          'of open orders alone is paid more than it loses. The least that begun '
                           'slabs lose beyond the prices of what joins them: slab 1 0, slab 2 0. '
                           'Prices and least slacks together, the worth, are 180, which is more '
                           'than 60 (1 - 1) = 0: every plan under this path loses at least 3.'),

@@ -139,7 +139,7 @@ def explain(program: Program, instance: Path, answer: Path | None, settings: Set
         for order in problem.heavy_orders():
             say(f'Order {order.id} weighs {show(order.weight)}, more than the largest size '
                 f'{show(problem.sizes[-1])}: there is no legal plan.')
-        return Exit.DONE
+        return run.status if run.status == 1 else Exit.DONE
     explain_answer(texts)
     say(f'{program.name} {texts.command} says: {run.line}')
     say(line_sentence(run.line))

@@ -44,8 +44,7 @@ def plan(program: Program, orders: Path, settings: Settings, prove: bool) -> int
     say(f'Read {what_was_read(problem)}.')
     run = search(program, problem, settings, 'prove' if prove else 'solve', say)
     if run.status == 1:
-        say(f'{verdicts.of_infeasible(program, problem).headline}')
-        return run.status
+        raise DeskFault('it finds no order that is too heavy, and the program says infeasible')
     answer = answer_of(program, problem, run)
     verified = verify(program, problem, answer) if answer.log is not None else None
     slabs = slabs_of(problem, answer.plan)

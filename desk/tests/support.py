@@ -35,7 +35,18 @@ PACKAGES: dict[str, tuple[str, Callable[[], bool]]] = {
     'soffice': ('libreoffice-calc-nogui', lambda: shutil.which('soffice') is not None),
     'program': ('the program of ./mill_slab, which isn\'t built',
                 lambda: real_program() is not None),
+    'terminal': ('a terminal of the system (/dev/pts)', lambda: can_open_terminal()),
 }
+
+
+def can_open_terminal() -> bool:
+    """Whether a terminal can be opened here."""
+    try:
+        for end in os.openpty():
+            os.close(end)
+    except OSError:
+        return False
+    return True
 
 
 def real_program() -> Path | None:

@@ -68,7 +68,7 @@ ANSWERS: dict[str, Told] = {
     'no answer': Told(GOOD, 'refused answer line 1', f'{LINE.format(1)} The answer ends before '
         'it; it is to be `optimal`, `feasible` or `infeasible`.', ''),
     'Windows line ends': Told(GOOD, 'refused answer line 1', f'{LINE.format(1)} There stands '
-        '"optimal\r"; it is to be `optimal`, `feasible` or `infeasible`. It ends with a carriage '
+        '"optimal\\r"; it is to be `optimal`, `feasible` or `infeasible`. It ends with a carriage '
         'return: take these out (tr -d \'\\r\').', ANSWER.replace('\n', '\r\n')),
     'a slab number too few': Told(GOOD, 'refused answer line 3', f'{LINE.format(3)} There stands '
         '"plan 1 2"; it is to be `plan` and 3 slab numbers from 1 to 3, one for each order. It '

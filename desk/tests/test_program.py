@@ -7,10 +7,11 @@ import subprocess
 import sys
 import time
 from pathlib import Path
+from unittest import mock
 
 from mill_desk.program import find_program
 from mill_desk.trouble import Trouble
-from tests.support import DESK, STAND_IN, InFolder, desk, each, launched, spread
+from tests.support import DESK, STAND_IN, InFolder, desk, each, launched, needs, spread
 
 SHEET = 'Order,Weight,Colour\nA,7,red\nB,8,blue\nC,5,red\n'
 SLEEPER = '''import os, sys, time
@@ -33,6 +34,10 @@ FAILING: dict[str, tuple[str, int, int, str]] = {
     'another status': ('what is this\n', 42, 42, 'The program ended with status 42. (mill_slab '
                        'solve, status 42)\nwhat is this'),
     'no answer though the status is 0': ('done\n', 0, 70, '\ndone'),
+    'infeasible where no order is heavy': (
+        'infeasible\norder 1\nend\n', 1, 70, 'it finds no order that is too heavy, and the program '
+        'says infeasible'),
+    'control characters': ('\x1b[2Jboo\n', 42, 42, '\\x1b[2Jboo'),
     'an answer for other orders': ('optimal\nloss 0\nplan 1\nend\n', 0, 70, 'plan 1'),
     'the instance is refused': ('refused instance byte 0\n', 3, 70, 'The desk has a fault, and '
                                 'wrote nothing: the program refused the instance that it wrote. '
@@ -204,6 +209,7 @@ sys.exit(4)
         self.assertIn('The time is up before the first budget of 20 000 nodes ended', outcome.err)
         self.assertFalse(is_alive(self.folder / 'pid'))
 
+    @needs('terminal')
     def test_ctrl_c_in_a_terminal_keeps_the_best(self) -> None:
         path = self.write('orders.csv', SHEET)
         other = self.script('other', self.GROWING.format(folder=str(self.folder)))
@@ -212,11 +218,13 @@ sys.exit(4)
         self.assertIn('320 000 nodes: stopped by Ctrl-C; the best finished answer is kept', shown)
         self.assertTrue((self.folder / 'orders-plan' / 'plan.csv').exists())
 
+    @needs('terminal')
     def test_ctrl_c_in_a_terminal_leaves_no_process_and_no_file(self) -> None:
         path = self.write('orders.csv', SHEET)
         other = self.script('other', SLEEPER.format(folder=str(self.folder)))
         status, shown = self.interrupted(['plan', path, '--sizes', '13'], other)
         self.assertEqual(status, 130, shown)
+        self.assertIn('s (Ctrl-C stops it)', shown)
         self.assertIn('Stopped; nothing was written.', shown)
         self.assertEqual(sorted(entry.name for entry in self.folder.iterdir()),
                          ['orders.csv', 'other', 'pid'])
@@ -228,7 +236,7 @@ sys.exit(4)
             os.chdir(self.folder)
             os.execv(DESK / 'desk', ['desk', *map(str, words), '--program', str(other)])
         wait_for(self.folder / 'pid')
-        time.sleep(0.3)
+        time.sleep(0.9)
         os.write(terminal, b'\x03')
         shown = read_all(terminal)
         _, status = os.waitpid(child, 0)
@@ -284,6 +292,33 @@ def read_all(terminal: int) -> str:
         if not piece:
             return shown.decode('utf-8', 'replace')
         shown += piece
+
+
+class Writing(InFolder):
+    """Where the system refuses to write."""
+
+    def test_a_folder_that_is_not_there_and_can_not_be_made(self) -> None:
+        path = self.write('orders.csv', SHEET)
+        outcome = desk('plan', path, '--sizes', '13', '--out', '/proc/none/plan')
+        self.assertEqual((outcome.status, outcome.err), (
+            2, 'desk: --out /proc/none/plan: No such file or directory\n'))
+
+    def test_a_full_disk_names_the_file(self) -> None:
+        path = self.write('orders.csv', SHEET)
+        with mock.patch('mill_desk.sheets.write_csv',
+                        side_effect=OSError(28, 'No space left on device', 'plan.csv')):
+            outcome = desk('plan', path, '--sizes', '13', '--out', self.folder / 'plan')
+        self.assertEqual((outcome.status, outcome.err), (
+            6, 'desk: plan.csv: No space left on device\n'))
+        self.assertEqual([entry.name for entry in self.folder.iterdir()], ['orders.csv'])
+
+    def test_any_other_fault_of_the_desk(self) -> None:
+        path = self.write('orders.csv', SHEET)
+        with mock.patch('mill_desk.sheets.write_csv', side_effect=ValueError('x')):
+            outcome = desk('plan', path, '--sizes', '13', '--out', self.folder / 'plan')
+        self.assertEqual(outcome.status, 70)
+        self.assertTrue(outcome.err.startswith('desk: The desk has a fault.\nTraceback'))
+        self.assertEqual([entry.name for entry in self.folder.iterdir()], ['orders.csv'])
 
 
 class Launching(InFolder):

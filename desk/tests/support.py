@@ -89,7 +89,7 @@ def spread(tests: type) -> type:
                      method: Callable[..., None] = method) -> None:
                 method(self, row)
 
-            made.__name__, made.__doc__ = f'{name}_{number:02}_{slug}', key
+            made.__name__, made.__doc__ = f'{name}_{number:02}_{slug[:60]}', key[:60]
             made.__dict__.update({key: value for key, value in vars(method).items()
                                   if key.startswith('__unittest')})
             setattr(tests, made.__name__, made)

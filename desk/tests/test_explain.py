@@ -140,6 +140,16 @@ class Accepted(InFolder):
             '(order 1), the heaviest 2 (order 3); 1 size, 4; at most 2 colours a slab; one step '
             'is 1.'))
 
+    def test_numbers_of_any_length(self) -> None:
+        long = '0' * 9000
+        outcome = desk('explain', self.write('instance.txt', f'{long}1 {long}4\n3\n1\n1 1\n'),
+                       program_path=program())
+        self.assertEqual((outcome.status, outcome.err), (0, ''))
+        path = self.write('instance.txt', f'{long}1 4\n3\n1\n1{long} 1\n')
+        outcome = desk('explain', path, program_path=program())
+        self.assertEqual(outcome.status, 3)
+        self.assertIn('refused instance range weight token 5', outcome.err)
+
     def test_each_heavy_order_is_named(self) -> None:
         outcome = desk('explain', self.write('instance.txt', '1 4\n1\n3\n5 1\n1 1\n9 1\n'),
                        program_path=program())

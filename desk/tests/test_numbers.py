@@ -32,6 +32,7 @@ READ = {
     'x': (None, None),
     '٣': (None, None),
     '0.1': (Fraction(1, 10), None),
+    '7' * 5000: (None, None),
 }
 COLUMNS = {
     'whole numbers alone': (['7', '12'], POINT),

@@ -191,7 +191,7 @@ sys.exit(4)
     def test_the_last_one_is_stopped_when_the_time_is_up(self) -> None:
         path = self.write('orders.csv', SHEET)
         other = self.script('other', self.GROWING.format(folder=str(self.folder)))
-        outcome = desk('plan', path, '--sizes', '13', '--minutes', '0.02', '--out',
+        outcome = desk('plan', path, '--sizes', '13', '--minutes', '0.06', '--out',
                        self.folder / 'plan', program_path=other)
         self.assertEqual((outcome.status, outcome.err), (4, ''))
         self.assertIn('20 000 nodes: loses 19,', outcome.out)
@@ -204,7 +204,7 @@ sys.exit(4)
     def test_no_time_for_the_first_one(self) -> None:
         path = self.write('orders.csv', SHEET)
         other = self.script('other', SLEEPER.format(folder=str(self.folder)))
-        outcome = desk('plan', path, '--sizes', '13', '--minutes', '0.005', program_path=other)
+        outcome = desk('plan', path, '--sizes', '13', '--minutes', '0.02', program_path=other)
         self.assertEqual(outcome.status, 130)
         self.assertIn('The time is up before the first budget of 20 000 nodes ended', outcome.err)
         self.assertFalse(is_alive(self.folder / 'pid'))
@@ -268,8 +268,8 @@ def wait_for(path: Path) -> None:
 
 def is_alive(path: Path) -> bool:
     """Whether the process whose number is in the file still runs, after a short while."""
-    number = int(path.read_text())
-    for _ in range(80):
+    number = int(path.read_text()) if path.exists() else 0
+    for _ in range(80 if number else 0):
         try:
             os.kill(number, 0)
             state = Path(f'/proc/{number}/stat').read_text().rpartition(')')[2].split()[0]
@@ -278,7 +278,7 @@ def is_alive(path: Path) -> bool:
         if state == 'Z':
             return False
         time.sleep(0.025)
-    return True
+    return number > 0
 
 
 def read_all(terminal: int) -> str:

@@ -105,12 +105,13 @@ class Steps(unittest.TestCase):
 
     @needs('hypothesis')
     def test_all_are_whole_multiples_and_no_greater_number_divides(self) -> None:
-        from hypothesis import given
+        from hypothesis import given, settings
         from hypothesis import strategies as some
 
         fractions = some.fractions(min_value=Fraction(1, 1000), max_value=1000,
                                    max_denominator=1000)
 
+        @settings(deadline=None, database=None)
         @given(some.lists(fractions, min_size=1, max_size=6))
         def holds(values: list[Fraction]) -> None:
             step = greatest_step(values)

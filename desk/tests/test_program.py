@@ -148,6 +148,20 @@ class Finding(InFolder):
         self.assertEqual((found.command, found.binary, found.is_ours, found.name),
                          (top / 'mill_slab', binary, True, './mill_slab'))
 
+    def test_a_list_of_checksums_decides_where_there_is_one(self) -> None:
+        top = self.repository()
+        binary = self.build(500)
+        names = ['HANDLES', 'crates.txt', 'crates/mill_slab/src/main.rt']
+        lines = subprocess.run(['cksum', *names], cwd=top, capture_output=True, text=True,
+                               check=True).stdout
+        binary.with_name('mill_slab.sources').write_text(lines)
+        self.assertTrue(find_program(None, top).is_ours)
+        (top / 'crates' / 'mill_slab' / 'src' / 'main.rt').write_text('y')
+        with self.assertRaises(Trouble) as caught:
+            find_program(None, top)
+        self.assertIn('The program was built before crates/mill_slab/src/main.rt was changed.',
+                      str(caught.exception))
+
     def test_no_wrapper(self) -> None:
         with self.assertRaises(Trouble) as caught:
             find_program(None, self.folder)

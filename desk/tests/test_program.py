@@ -215,6 +215,17 @@ sys.exit(4)
         self.assertIn('spent 80000', (self.folder / 'plan' / 'answer.txt').read_text())
         self.assertFalse(is_alive(self.folder / 'pid'))
 
+    def test_a_later_budget_that_is_worse_is_not_kept(self) -> None:
+        path = self.write('orders.csv', SHEET)
+        body = self.GROWING.replace("('1 2 3', 19)", "('1 2 1', 6)").replace(
+            "80000: ('1 2 1', 6)", "80000: ('1 2 3', 19)").replace(
+            "'/loss', 'w').write(str(loss))", "'/loss', 'w').write('6')")
+        other = self.script('other', body.format(folder=str(self.folder)))
+        outcome = desk('plan', path, '--sizes', '13', '--minutes', '0.06', '--out',
+                       self.folder / 'plan', program_path=other)
+        self.assertEqual((outcome.status, outcome.err), (4, ''))
+        self.assertIn('spent 20000', (self.folder / 'plan' / 'answer.txt').read_text())
+
     def test_no_time_for_the_first_one(self) -> None:
         path = self.write('orders.csv', SHEET)
         other = self.script('other', SLEEPER.format(folder=str(self.folder)))

@@ -5,7 +5,8 @@ from collections.abc import Iterator
 from dataclasses import dataclass
 from enum import Enum
 
-_NUMBER = r'(?:0|[1-9][0-9]*)'
+# No number of an answer has more than 13 digits.
+_NUMBER = r'(?:0|[1-9][0-9]{0,12})'
 
 
 class Kind(Enum):

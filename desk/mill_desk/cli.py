@@ -2,6 +2,7 @@
 
 import os
 import sys
+import traceback
 from argparse import ArgumentParser, Namespace, RawDescriptionHelpFormatter
 from collections.abc import Callable
 from pathlib import Path
@@ -168,9 +169,20 @@ def main(arguments: list[str]) -> int:
     except Trouble as trouble:
         complain(f'desk: {trouble}')
         return trouble.status
-    except BrokenPipeError:
-        os.dup2(os.open(os.devnull, os.O_WRONLY), sys.stdout.fileno())
-        return Exit.DONE
+    except OSError as error:
+        return broken(error)
     except KeyboardInterrupt:
         complain('desk: stopped')
         return Exit.STOPPED
+    except Exception:
+        complain(f'desk: The desk has a fault.\n{traceback.format_exc()}')
+        return Exit.DESK_FAULT
+
+
+def broken(error: OSError) -> int:
+    """What to do where the system refuses to read or to write."""
+    if isinstance(error, BrokenPipeError):
+        os.dup2(os.open(os.devnull, os.O_WRONLY), sys.stdout.fileno())
+        return Exit.DONE
+    complain(f'desk: {error.filename or "writing"}: {error.strerror}')
+    return Exit.WRITING

@@ -2,6 +2,7 @@
 
 import sys
 import textwrap
+import unicodedata
 from typing import TextIO
 
 from mill_desk.numbers import NARROW_SPACE
@@ -10,8 +11,10 @@ WIDTH = 100
 
 
 def plain(text: str) -> str:
-    """The text with ordinary spaces in its numbers."""
-    return text.replace(NARROW_SPACE, ' ')
+    """The text with ordinary spaces in its numbers, and with control characters in words."""
+    text = text.replace(NARROW_SPACE, ' ')
+    return ''.join(sign if sign == '\n' or unicodedata.category(sign) != 'Cc'
+                   else sign.encode('unicode_escape').decode() for sign in text)
 
 
 def wrapped(text: str) -> str:

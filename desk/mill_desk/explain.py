@@ -72,6 +72,11 @@ class Word:
     number: int
 
     @property
+    def value(self) -> int:
+        """The number that the word is; the program found it in its range."""
+        return int(self.text.lstrip(b'0') or b'0')
+
+    @property
     def shown(self) -> str:
         """The word as far as it can be shown."""
         text = self.text.decode('utf-8', 'backslashreplace')
@@ -103,7 +108,7 @@ def role_of(number: int, words: list[Word]) -> tuple[str, str]:
     """What word `number`, from 1, of an instance is, as its kind and in full."""
     if number == 1:
         return 'count of sizes', 'the count of sizes'
-    sizes = int(words[0].text)
+    sizes = words[0].value
     if number <= sizes + 1:
         return 'size', f'size {number - 1} of {sizes}'
     if number == sizes + 2:
@@ -139,7 +144,7 @@ def explain(program: Program, instance: Path, answer: Path | None, settings: Set
         for order in problem.heavy_orders():
             say(f'Order {order.id} weighs {show(order.weight)}, more than the largest size '
                 f'{show(problem.sizes[-1])}: there is no legal plan.')
-        return Exit.DONE
+        return run.status if run.status == 1 else Exit.DONE
     explain_answer(texts)
     say(f'{program.name} {texts.command} says: {run.line}')
     say(line_sentence(run.line))
@@ -208,11 +213,11 @@ def of_short(words: list[Word], number: int) -> str:
 
 def counts_of(words: list[Word]) -> str:
     """The counts that were read so far."""
-    sizes = int(words[0].text)
+    sizes = words[0].value
     told = [f'line {words[0].line} says {plural(sizes, "size")}']
     if len(words) >= sizes + 3:
         orders = words[sizes + 2]
-        told.append(f'line {orders.line} says {plural(int(orders.text), "order")}')
+        told.append(f'line {orders.line} says {plural(orders.value, "order")}')
     text = ' and '.join(told)
     return f'{text[0].upper()}{text[1:]}.'
 
@@ -234,7 +239,7 @@ def of_rest(words: list[Word], byte: int) -> str:
 def of_line(texts: Texts, words: list[Word], number: int, sentence: str) -> str:
     """A line of an answer."""
     lines = texts.answer_text.split('\n')
-    orders = int(words[int(words[0].text) + 2].text)
+    orders = words[words[0].value + 2].value
     if number > len(lines) or (number == len(lines) and not lines[-1]):
         return (f'{sentence} The answer ends before it; it is to be '
                 f'{expected(lines, number, orders)}.')

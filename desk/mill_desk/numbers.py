@@ -13,6 +13,7 @@ from fractions import Fraction
 from mill_desk.trouble import Fault
 
 NARROW_SPACE = '\u202f'
+MOST_DIGITS = 100
 _SPACES = " '\u2019\u00a0\u2009\u202f"
 
 
@@ -46,7 +47,7 @@ _PATTERNS = {mark: _pattern(mark) for mark in Mark}
 def read_number(text: str, mark: Mark) -> Fraction | None:
     """The number that the text is under this decimal mark; None where it is none."""
     found = _PATTERNS[mark].fullmatch(text.strip())
-    if not found:
+    if not found or len(text) > MOST_DIGITS:
         return None
     sign, whole, tail, bare_tail = found.groups()
     digits = re.sub(r'\D', '', whole or '0')

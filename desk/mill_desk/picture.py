@@ -19,6 +19,7 @@ from mill_desk.wording import Mood, Verdict
 WIDTH, HEIGHT = 1600, 900
 LEFT, RIGHT, HEAD = 88, 30, 134
 MOST_SLABS = 60
+WIDEST = 240.0
 MOST_ROWS = 20
 
 
@@ -87,7 +88,7 @@ class Frame:
     @property
     def pitch(self) -> float:
         """From one slab to the next."""
-        return min(120.0, (WIDTH - LEFT - self.right) / max(1, self.count))
+        return min(WIDEST, (WIDTH - LEFT - self.right) / max(1, self.count))
 
     @property
     def width(self) -> float:
@@ -175,14 +176,13 @@ def label_of(frame: Frame, high: float, texts: Sequence[str]) -> tuple[str, bool
 
 
 def names_of(frame: Frame, slabs: Sequence[Slab]) -> list[Name]:
-    """The names of the slabs, where they have room."""
-    names = []
-    for place, slab in enumerate(slabs):
-        points = min(14, int(1.6 * frame.width / max(1, len(slab.name))))
-        if points >= 8:
-            middle = LEFT + place * frame.pitch + frame.width / 2
-            names.append(Name(f'{middle:.1f}', slab.name, points))
-    return names
+    """The names of the slabs, where they all have room."""
+    longest = max((len(slab.name) for slab in slabs), default=1)
+    points = min(14, int(1.6 * frame.pitch / longest))
+    if points < 8:
+        return []
+    return [Name(f'{LEFT + place * frame.pitch + frame.width / 2:.1f}', slab.name, points)
+            for place, slab in enumerate(slabs)]
 
 
 def key_of(problem: Problem) -> list[Entry]:

@@ -44,8 +44,7 @@ def plan(program: Program, orders: Path, settings: Settings, prove: bool) -> int
     say(f'Read {what_was_read(problem)}.')
     run = search(program, problem, settings, 'prove' if prove else 'solve', say)
     if run.status == 1:
-        say(f'{verdicts.of_infeasible(program, problem).headline}')
-        return run.status
+        raise DeskFault('it finds no order that is too heavy, and the program says infeasible')
     answer = answer_of(program, problem, run)
     verified = verify(program, problem, answer) if answer.log is not None else None
     slabs = slabs_of(problem, answer.plan)
@@ -55,8 +54,10 @@ def plan(program: Program, orders: Path, settings: Settings, prove: bool) -> int
                     verdicts.of_answer(program, problem, answer, verified is not None), facts)
     target = settings.out or Path(f'{orders.stem}-plan')
     with output_folder(target) as output:
-        left_out = write_plan(output, program, result, settings)
+        left_out = write_plan(output, program, result)
         paths = output.publish()
+    if prove and verified is None:
+        left_out.append('there is no proof to verify, since the budget ended first')
     tell(result, paths, left_out)
     return run.status
 
@@ -84,8 +85,7 @@ def recount(problem: Problem, answer: Answer, slabs: Sequence[Slab]) -> None:
         raise DeskFault('the loss in the table\'s numbers isn\'t the one in steps')
 
 
-def write_plan(output: Output, program: Program, result: Result,
-               settings: Settings) -> list[str]:
+def write_plan(output: Output, program: Program, result: Result) -> list[str]:
     """Writes the files of a plan and reads the tables back; says which files are left out."""
     problem, slabs = result.problem, result.slabs
     output.path('instance.txt').write_text(problem.instance_text(), encoding='ascii')
@@ -151,7 +151,7 @@ def tell(result: Result, paths: Sequence[Path], left_out: Sequence[str]) -> None
     for note in result.problem.notes:
         say(f'Note: {note}.')
     for line in left_out:
-        say(f'Note: {line}')
+        say(f'Note: {line}.')
     say(f'Written to {paths[0].parent}: ' + ', '.join(path.name for path in paths))
 
 

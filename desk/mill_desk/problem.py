@@ -130,7 +130,7 @@ def what_was_read(problem: Problem) -> str:
 
 def problem_of_instance(text: str, name: str, limit: int) -> Problem:
     """The problem of an instance text that the program took. Orders are named by their number."""
-    numbers = iter(map(int, text.split()))
+    numbers = iter(int(token.lstrip('0') or '0') for token in text.split())
     sizes = [next(numbers) for _ in range(next(numbers))]
     next(numbers)
     orders = []

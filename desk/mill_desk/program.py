@@ -20,6 +20,8 @@ from mill_desk.trouble import Exit, Trouble, WordsTrouble
 
 TOP = Path(__file__).resolve().parents[2]
 PARENT_DEATH_SIGNAL = 1
+SOURCE_NAMES = ('crates.txt', 'HANDLES')
+SOURCE_ENDS = ('.rt', '.antt')
 # What the desk would call and the program doesn't serve yet, with what it would be used for.
 NOT_SERVED = {
     'pause and resume': 'a run that goes on where it stopped',
@@ -175,9 +177,16 @@ def not_built(wrapper: Path, why: str) -> str:
 
 
 def needs_building(top: Path, binary: Path) -> str | None:
-    """Why `./mill_slab` would prove and build first, by the rule of that script; None if not."""
+    """Why `./mill_slab` would prove and build first; None where it surely would not.
+
+    Where that script left a list of checksums beside the program, the sources must have these; else
+    no source may be newer than the program.
+    """
     if not os.access(binary, os.X_OK):
         return 'isn\'t built yet'
+    listed = binary.with_name(binary.name + '.sources')
+    if listed.exists():
+        return changed_source(top, listed.read_text().splitlines())
     built = binary.stat().st_mtime_ns
     for source in sources(top):
         if source.stat().st_mtime_ns > built:
@@ -185,9 +194,21 @@ def needs_building(top: Path, binary: Path) -> str | None:
     return None
 
 
+def changed_source(top: Path, listed: list[str]) -> str | None:
+    """The first source that isn't as in a list of lines of `cksum`, in words."""
+    names = [str(source.relative_to(top)) for source in sources(top)
+             if source.name in SOURCE_NAMES or source.suffix in SOURCE_ENDS]
+    now = subprocess.run(['cksum', *names], cwd=top, capture_output=True, text=True, check=False)
+    changed = set(listed).symmetric_difference(now.stdout.splitlines())
+    if not changed:
+        return None
+    name = min(line.split(' ', 2)[-1] for line in changed)
+    return f'was built before {name} was changed'
+
+
 def sources(top: Path) -> list[Path]:
-    """The files that the program is built from."""
-    found = [top / name for name in ('crates.txt', 'HANDLES') if (top / name).exists()]
+    """The files that the program is built from, and those beside them."""
+    found = [top / name for name in SOURCE_NAMES if (top / name).exists()]
     for folder, inside, files in os.walk(top / 'crates'):
         inside[:] = [name for name in inside if name != 'out']
         found += [Path(folder) / name for name in files]

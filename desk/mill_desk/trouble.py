@@ -12,6 +12,7 @@ class Exit(IntEnum):
     DONE = 0
     WORDS = 2
     TABLE = 3
+    WRITING = 6
     REJECTED = 8
     DESK_FAULT = 70
     NOT_BUILT = 126

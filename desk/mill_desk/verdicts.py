@@ -59,6 +59,8 @@ def of_check(program: Program, problem: Problem, run: Run, slabs: Sequence[Slab]
         case = Case.LEGAL if said.form.startswith('legal') else Case.VERIFIED
         return verdict(case, who, rounded, loss=problem.amount_of_steps(said.number('L')),
                        records='its log')
+    if 'S' in said.values and said.number('S') not in by_number:
+        return verdict(Case.OTHER, who, sentence=said.sentence, line=run.line)
     if said.form == 'rejected heavy slab S load W':
         slab = by_number[said.number('S')]
         return verdict(Case.HEAVY, who, rounded, slab=slab.name,

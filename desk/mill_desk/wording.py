@@ -235,7 +235,7 @@ def words_of(text: str) -> str:
         if word == 'NAME':
             parts.append(r'(?P<NAME>[a-z]+)')
         elif len(word) == 1 and word.isupper():
-            parts.append(rf'(?P<{word}>\d+)')
+            parts.append(rf'(?P<{word}>\d{{1,20}})')
         else:
             parts.append(re.escape(word))
     return ' '.join(parts)

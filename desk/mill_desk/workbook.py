@@ -46,10 +46,14 @@ def load(path: Path, raw: bytes, stored: bool = True) -> Any:
     try:
         with warnings.catch_warnings():
             warnings.simplefilter('ignore')
-            return package.load_workbook(io.BytesIO(raw), data_only=stored)
+            book = package.load_workbook(io.BytesIO(raw), data_only=stored)
     except Exception as error:
         raise refused(path.name, f'can\'t be read as .xlsx ({type(error).__name__})',
                       'open it in the spreadsheet program and save it again') from error
+    if not book.worksheets:
+        raise refused(path.name, 'has no sheet that can be read',
+                      'open it in the spreadsheet program and save it again')
+    return book
 
 
 def look_inside(path: Path, raw: bytes) -> None:

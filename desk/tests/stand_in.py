@@ -27,7 +27,8 @@ def instance(data):
         bad = [i for i, byte in enumerate(piece) if not 48 <= byte <= 57]
         if bad:
             raise Refused(f'refused instance byte {start + bad[0]}')
-        if not least <= int(piece) <= most:
+        piece = piece.lstrip(b'0') or b'0'
+        if len(piece) > 9 or not least <= int(piece) <= most:
             raise Refused(f'refused instance range {name} token {k + 1}')
         return int(piece)
 

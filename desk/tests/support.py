@@ -35,7 +35,18 @@ PACKAGES: dict[str, tuple[str, Callable[[], bool]]] = {
     'soffice': ('libreoffice-calc-nogui', lambda: shutil.which('soffice') is not None),
     'program': ('the program of ./mill_slab, which isn\'t built',
                 lambda: real_program() is not None),
+    'terminal': ('a terminal of the system (/dev/pts)', lambda: can_open_terminal()),
 }
+
+
+def can_open_terminal() -> bool:
+    """Whether a terminal can be opened here."""
+    try:
+        for end in os.openpty():
+            os.close(end)
+    except OSError:
+        return False
+    return True
 
 
 def real_program() -> Path | None:
@@ -78,7 +89,7 @@ def spread(tests: type) -> type:
                      method: Callable[..., None] = method) -> None:
                 method(self, row)
 
-            made.__name__, made.__doc__ = f'{name}_{number:02}_{slug}', key
+            made.__name__, made.__doc__ = f'{name}_{number:02}_{slug[:60]}', key[:60]
             made.__dict__.update({key: value for key, value in vars(method).items()
                                   if key.startswith('__unittest')})
             setattr(tests, made.__name__, made)

@@ -68,7 +68,7 @@ ANSWERS: dict[str, Told] = {
     'no answer': Told(GOOD, 'refused answer line 1', f'{LINE.format(1)} The answer ends before '
         'it; it is to be `optimal`, `feasible` or `infeasible`.', ''),
     'Windows line ends': Told(GOOD, 'refused answer line 1', f'{LINE.format(1)} There stands '
-        '"optimal\r"; it is to be `optimal`, `feasible` or `infeasible`. It ends with a carriage '
+        '"optimal\\r"; it is to be `optimal`, `feasible` or `infeasible`. It ends with a carriage '
         'return: take these out (tr -d \'\\r\').', ANSWER.replace('\n', '\r\n')),
     'a slab number too few': Told(GOOD, 'refused answer line 3', f'{LINE.format(3)} There stands '
         '"plan 1 2"; it is to be `plan` and 3 slab numbers from 1 to 3, one for each order. It '
@@ -139,6 +139,16 @@ class Accepted(InFolder):
             'The instance is right: 3 orders of 3 colours, together 4; the lightest weighs 1 '
             '(order 1), the heaviest 2 (order 3); 1 size, 4; at most 2 colours a slab; one step '
             'is 1.'))
+
+    def test_numbers_of_any_length(self) -> None:
+        long = '0' * 9000
+        outcome = desk('explain', self.write('instance.txt', f'{long}1 {long}4\n3\n1\n1 1\n'),
+                       program_path=program())
+        self.assertEqual((outcome.status, outcome.err), (0, ''))
+        path = self.write('instance.txt', f'{long}1 4\n3\n1\n1{long} 1\n')
+        outcome = desk('explain', path, program_path=program())
+        self.assertEqual(outcome.status, 3)
+        self.assertIn('refused instance range weight token 5', outcome.err)
 
     def test_each_heavy_order_is_named(self) -> None:
         outcome = desk('explain', self.write('instance.txt', '1 4\n1\n3\n5 1\n1 1\n9 1\n'),

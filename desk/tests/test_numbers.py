@@ -32,6 +32,7 @@ READ = {
     'x': (None, None),
     '٣': (None, None),
     '0.1': (Fraction(1, 10), None),
+    '7' * 5000: (None, None),
 }
 COLUMNS = {
     'whole numbers alone': (['7', '12'], POINT),
@@ -104,12 +105,13 @@ class Steps(unittest.TestCase):
 
     @needs('hypothesis')
     def test_all_are_whole_multiples_and_no_greater_number_divides(self) -> None:
-        from hypothesis import given
+        from hypothesis import given, settings
         from hypothesis import strategies as some
 
         fractions = some.fractions(min_value=Fraction(1, 1000), max_value=1000,
                                    max_denominator=1000)
 
+        @settings(deadline=None, database=None)
         @given(some.lists(fractions, min_size=1, max_size=6))
         def holds(values: list[Fraction]) -> None:
             step = greatest_step(values)

@@ -85,6 +85,19 @@ class Pages(InFolder):
         self.assertEqual(len(set(rows)), 60)
 
 
+class Slabs(unittest.TestCase):
+    """Plans as slabs."""
+
+    def test_orders_of_one_colour_stand_side_by_side_the_heaviest_first(self) -> None:
+        weights = ((3, 2), (5, 1), (4, 2), (2, 1))
+        orders = tuple(Order(f'O{i}', Fraction(weight), colour, '', i, weight)
+                       for i, (weight, colour) in enumerate(weights))
+        problem = Problem('x', orders, {1: 'a', 2: 'b'}, (Fraction(20),), 2)
+        slab, = slabs_of(problem, [1, 1, 1, 1])
+        self.assertEqual([order.id for order in slab.orders], ['O1', 'O3', 'O2', 'O0'])
+        self.assertEqual((slab.load, slab.size, slab.loss), (14, 20, 6))
+
+
 @needs('jinja2')
 class Pictures(unittest.TestCase):
     """The picture for a slide."""

@@ -56,6 +56,15 @@ class Plans(InFolder):
         self.assertIn('It says too that its checker read the proof,', said)
         self.assertIn('log 1 ', (self.folder / 'plan' / 'answer.txt').read_text())
 
+    def test_a_budget_that_ends_before_the_proof(self) -> None:
+        path = self.write('orders.csv', SHEET)
+        outcome = desk('plan', path, '--sizes', '12; 13', '--out', self.folder / 'plan', '--prove',
+                       '--nodes', '3')
+        self.assertEqual((outcome.status, outcome.err), (4, ''))
+        self.assertIn('Note: there is no proof to verify, since the budget ended first.',
+                      outcome.out)
+        self.assertNotIn('checker', outcome.out)
+
     def test_rounding_shows_the_true_loss_beside(self) -> None:
         path = self.write('orders.csv', 'Order,Weight,Colour\nA,6.4,red\nB,5.3,red\n')
         outcome = desk('plan', path, '--sizes', '13.9', '--step', '1', '--round-up', '--out',

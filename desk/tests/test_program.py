@@ -7,10 +7,11 @@ import subprocess
 import sys
 import time
 from pathlib import Path
+from unittest import mock
 
 from mill_desk.program import find_program
 from mill_desk.trouble import Trouble
-from tests.support import DESK, STAND_IN, InFolder, desk, each, launched, spread
+from tests.support import DESK, STAND_IN, InFolder, desk, each, launched, needs, spread
 
 SHEET = 'Order,Weight,Colour\nA,7,red\nB,8,blue\nC,5,red\n'
 SLEEPER = '''import os, sys, time
@@ -33,6 +34,10 @@ FAILING: dict[str, tuple[str, int, int, str]] = {
     'another status': ('what is this\n', 42, 42, 'The program ended with status 42. (mill_slab '
                        'solve, status 42)\nwhat is this'),
     'no answer though the status is 0': ('done\n', 0, 70, '\ndone'),
+    'infeasible where no order is heavy': (
+        'infeasible\norder 1\nend\n', 1, 70, 'it finds no order that is too heavy, and the program '
+        'says infeasible'),
+    'control characters': ('\x1b[2Jboo\n', 42, 42, '\\x1b[2Jboo'),
     'an answer for other orders': ('optimal\nloss 0\nplan 1\nend\n', 0, 70, 'plan 1'),
     'the instance is refused': ('refused instance byte 0\n', 3, 70, 'The desk has a fault, and '
                                 'wrote nothing: the program refused the instance that it wrote. '
@@ -143,6 +148,20 @@ class Finding(InFolder):
         self.assertEqual((found.command, found.binary, found.is_ours, found.name),
                          (top / 'mill_slab', binary, True, './mill_slab'))
 
+    def test_a_list_of_checksums_decides_where_there_is_one(self) -> None:
+        top = self.repository()
+        binary = self.build(500)
+        names = ['HANDLES', 'crates.txt', 'crates/mill_slab/src/main.rt']
+        lines = subprocess.run(['cksum', *names], cwd=top, capture_output=True, text=True,
+                               check=True).stdout
+        binary.with_name('mill_slab.sources').write_text(lines)
+        self.assertTrue(find_program(None, top).is_ours)
+        (top / 'crates' / 'mill_slab' / 'src' / 'main.rt').write_text('y')
+        with self.assertRaises(Trouble) as caught:
+            find_program(None, top)
+        self.assertIn('The program was built before crates/mill_slab/src/main.rt was changed.',
+                      str(caught.exception))
+
     def test_no_wrapper(self) -> None:
         with self.assertRaises(Trouble) as caught:
             find_program(None, self.folder)
@@ -186,7 +205,7 @@ sys.exit(4)
     def test_the_last_one_is_stopped_when_the_time_is_up(self) -> None:
         path = self.write('orders.csv', SHEET)
         other = self.script('other', self.GROWING.format(folder=str(self.folder)))
-        outcome = desk('plan', path, '--sizes', '13', '--minutes', '0.02', '--out',
+        outcome = desk('plan', path, '--sizes', '13', '--minutes', '0.06', '--out',
                        self.folder / 'plan', program_path=other)
         self.assertEqual((outcome.status, outcome.err), (4, ''))
         self.assertIn('20 000 nodes: loses 19,', outcome.out)
@@ -196,14 +215,26 @@ sys.exit(4)
         self.assertIn('spent 80000', (self.folder / 'plan' / 'answer.txt').read_text())
         self.assertFalse(is_alive(self.folder / 'pid'))
 
+    def test_a_later_budget_that_is_worse_is_not_kept(self) -> None:
+        path = self.write('orders.csv', SHEET)
+        body = self.GROWING.replace("('1 2 3', 19)", "('1 2 1', 6)").replace(
+            "80000: ('1 2 1', 6)", "80000: ('1 2 3', 19)").replace(
+            "'/loss', 'w').write(str(loss))", "'/loss', 'w').write('6')")
+        other = self.script('other', body.format(folder=str(self.folder)))
+        outcome = desk('plan', path, '--sizes', '13', '--minutes', '0.06', '--out',
+                       self.folder / 'plan', program_path=other)
+        self.assertEqual((outcome.status, outcome.err), (4, ''))
+        self.assertIn('spent 20000', (self.folder / 'plan' / 'answer.txt').read_text())
+
     def test_no_time_for_the_first_one(self) -> None:
         path = self.write('orders.csv', SHEET)
         other = self.script('other', SLEEPER.format(folder=str(self.folder)))
-        outcome = desk('plan', path, '--sizes', '13', '--minutes', '0.005', program_path=other)
+        outcome = desk('plan', path, '--sizes', '13', '--minutes', '0.02', program_path=other)
         self.assertEqual(outcome.status, 130)
         self.assertIn('The time is up before the first budget of 20 000 nodes ended', outcome.err)
         self.assertFalse(is_alive(self.folder / 'pid'))
 
+    @needs('terminal')
     def test_ctrl_c_in_a_terminal_keeps_the_best(self) -> None:
         path = self.write('orders.csv', SHEET)
         other = self.script('other', self.GROWING.format(folder=str(self.folder)))
@@ -212,11 +243,13 @@ sys.exit(4)
         self.assertIn('320 000 nodes: stopped by Ctrl-C; the best finished answer is kept', shown)
         self.assertTrue((self.folder / 'orders-plan' / 'plan.csv').exists())
 
+    @needs('terminal')
     def test_ctrl_c_in_a_terminal_leaves_no_process_and_no_file(self) -> None:
         path = self.write('orders.csv', SHEET)
         other = self.script('other', SLEEPER.format(folder=str(self.folder)))
         status, shown = self.interrupted(['plan', path, '--sizes', '13'], other)
         self.assertEqual(status, 130, shown)
+        self.assertIn('s (Ctrl-C stops it)', shown)
         self.assertIn('Stopped; nothing was written.', shown)
         self.assertEqual(sorted(entry.name for entry in self.folder.iterdir()),
                          ['orders.csv', 'other', 'pid'])
@@ -228,7 +261,7 @@ sys.exit(4)
             os.chdir(self.folder)
             os.execv(DESK / 'desk', ['desk', *map(str, words), '--program', str(other)])
         wait_for(self.folder / 'pid')
-        time.sleep(0.3)
+        time.sleep(0.9)
         os.write(terminal, b'\x03')
         shown = read_all(terminal)
         _, status = os.waitpid(child, 0)
@@ -260,8 +293,8 @@ def wait_for(path: Path) -> None:
 
 def is_alive(path: Path) -> bool:
     """Whether the process whose number is in the file still runs, after a short while."""
-    number = int(path.read_text())
-    for _ in range(80):
+    number = int(path.read_text()) if path.exists() else 0
+    for _ in range(80 if number else 0):
         try:
             os.kill(number, 0)
             state = Path(f'/proc/{number}/stat').read_text().rpartition(')')[2].split()[0]
@@ -270,7 +303,7 @@ def is_alive(path: Path) -> bool:
         if state == 'Z':
             return False
         time.sleep(0.025)
-    return True
+    return number > 0
 
 
 def read_all(terminal: int) -> str:
@@ -284,6 +317,33 @@ def read_all(terminal: int) -> str:
         if not piece:
             return shown.decode('utf-8', 'replace')
         shown += piece
+
+
+class Writing(InFolder):
+    """Where the system refuses to write."""
+
+    def test_a_folder_that_is_not_there_and_can_not_be_made(self) -> None:
+        path = self.write('orders.csv', SHEET)
+        outcome = desk('plan', path, '--sizes', '13', '--out', '/proc/none/plan')
+        self.assertEqual((outcome.status, outcome.err), (
+            2, 'desk: --out /proc/none/plan: No such file or directory\n'))
+
+    def test_a_full_disk_names_the_file(self) -> None:
+        path = self.write('orders.csv', SHEET)
+        with mock.patch('mill_desk.sheets.write_csv',
+                        side_effect=OSError(28, 'No space left on device', 'plan.csv')):
+            outcome = desk('plan', path, '--sizes', '13', '--out', self.folder / 'plan')
+        self.assertEqual((outcome.status, outcome.err), (
+            6, 'desk: plan.csv: No space left on device\n'))
+        self.assertEqual([entry.name for entry in self.folder.iterdir()], ['orders.csv'])
+
+    def test_any_other_fault_of_the_desk(self) -> None:
+        path = self.write('orders.csv', SHEET)
+        with mock.patch('mill_desk.sheets.write_csv', side_effect=ValueError('x')):
+            outcome = desk('plan', path, '--sizes', '13', '--out', self.folder / 'plan')
+        self.assertEqual(outcome.status, 70)
+        self.assertTrue(outcome.err.startswith('desk: The desk has a fault.\nTraceback'))
+        self.assertEqual([entry.name for entry in self.folder.iterdir()], ['orders.csv'])
 
 
 class Launching(InFolder):

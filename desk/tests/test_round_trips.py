@@ -22,7 +22,8 @@ from tests.support import InFolder, needs, program
 try:
     from hypothesis import HealthCheck, given, settings
     from hypothesis import strategies as some
-    QUICK = settings(max_examples=25, deadline=None, suppress_health_check=list(HealthCheck))
+    QUICK = settings(max_examples=25, deadline=None, database=None,
+                     suppress_health_check=list(HealthCheck))
 except ImportError:
     QUICK = None  # type: ignore[assignment]
 

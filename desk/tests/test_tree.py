@@ -71,6 +71,22 @@ BY_HAND: dict[str, tuple[str, str]] = {
     'the first of two wrong paths': (five(('P 4 1 1 2 3 0', ''), ('P 3 1 2 3 0 0', '')),
                                      'rejected missing 4 1 1 2 3'),
 }
+# One colour a slab: three orders of colour 1, then one of colour 2, which joins none of them. So no
+# group is live at depth 3, and the paths differ in their dead loss: 3, 3, 1 and 6.
+DEAD = '2 5 7\n2\n4\n4 1\n3 1\n2 1\n1 2\n'
+DEAD_FRONT = ('S 0', 'S 1 1', 'S 2 1 1')
+DEAD_TAIL = ('S 3 1 2 3', 'L 4 1 2 3 4')
+DEAD_LOSS: dict[str, tuple[str, str]] = {
+    'a path that has lost less': (text_of(5, '1 2 2 3', (
+        *DEAD_FRONT, 'D 3 1 1 2 1 2 2', 'S 2 1 2', 'D 3 1 2 1 1 2 2', 'S 3 1 2 2', 'L 4 1 2 2 3',
+        *DEAD_TAIL)), 'verified loss 5'),
+    'a path that has lost more': (text_of(5, '1 2 2 3', (
+        *DEAD_FRONT, 'S 3 1 1 2', 'L 4 1 1 2 3', 'S 2 1 2', 'D 3 1 2 1 1 1 2', 'D 3 1 2 2 1 1 2',
+        *DEAD_TAIL)), 'rejected unsound 3 1 2 2'),
+    'a path that is dominated itself': (text_of(5, '1 2 2 3', (
+        *DEAD_FRONT, 'D 3 1 1 2 1 2 1', 'S 2 1 2', 'D 3 1 2 1 1 2 2', 'S 3 1 2 2', 'L 4 1 2 2 3',
+        *DEAD_TAIL)), 'rejected unsound 3 1 1 2'),
+}
 WORDS: dict[tuple[int, ...], tuple[str, str]] = {
     (): ('split', 'Split: order 1 goes on each begun slab that stays legal, or on a new one: 1 '
                   'case.'),
@@ -101,6 +117,19 @@ class ByHand(InFolder):
     def test_verify_says_so_too(self, row: tuple[str, str]) -> None:
         answer, line = row
         run = Program(program(), program(), False).run(['verify'], (FIVE + answer).encode())
+        self.assertEqual(run.line, line)
+
+    @each(DEAD_LOSS)
+    def test_the_dead_loss_decides(self, row: tuple[str, str]) -> None:
+        answer, line = row
+        self.assertEqual(tree_of(DEAD, answer, 1).verify_line(), line)
+
+    @needs('program')
+    @each(DEAD_LOSS)
+    def test_verify_says_so_of_the_dead_loss(self, row: tuple[str, str]) -> None:
+        answer, line = row
+        run = Program(program(), program(), False).run(['verify', '--colours', '1'],
+                                                       (DEAD + answer).encode())
         self.assertEqual(run.line, line)
 
     @each({str(path): (path, *words) for path, words in WORDS.items()})

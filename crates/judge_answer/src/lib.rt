@@ -1,13 +1,9 @@
-// A library with one function.
+//! What is said of an answer to an instance: of its plan, of the loss that it states, and of its
+//! log, in this order.
 #![tactic(auto)]
 
-ghost use Rattle.std.specs.Prelude.{◌≡◌};
-ghost use Rattle.judge_answer.specs.Echo.{echo_of};
+mod proof;
+mod stated;
 
-// The `ensures` clause is the contract: what `echo` returns is `echo_of` of its argument, a definition
-// in `specs/Echo.antt`, which a caller's clause can cite too.
-pub fn echo(x: usize) -> usize
-    ensures { result ≡ echo_of x }
-{
-    x
-}
+pub use stated::check;
+pub use proof::verify;

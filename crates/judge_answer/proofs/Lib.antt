@@ -1,0 +1,4 @@
+mod Numbered
+mod PlanSaid
+pub mod SaidOnce
+mod Tabled

@@ -21,7 +21,8 @@ use Rattle.reply_text.specs.declared.judgement.Judgement.TheVariants.{Colourful,
 use Rattle.instance_facts.specs.Heavy.{IsFirstHeavyIfAny}
 use Rattle.instance_facts.proofs.HeavyOnce.{any-once}
 use Rattle.judge_answer.specs.Check.{IsSaidOfPlan, IsSaidOfOrder, IsSaidOf}
-use Rattle.judge_answer.specs.Verify.{task_of_problem, IsSaidOfProof, IsVerdictOn, ProvesNothing}
+use Rattle.instance_facts.specs.Task.{task_of_problem}
+use Rattle.judge_answer.specs.Verify.{IsSaidOfProof, IsVerdictOn, ProvesNothing}
 use Rattle.judge_answer.proofs.PlanSaid.{IsRight, said_by, verdict-once, plan-known, plan-once}
 
 -- ---- an order

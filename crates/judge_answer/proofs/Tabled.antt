@@ -10,7 +10,8 @@ use Rattle.mill_laws.specs.LogLaws.{task_of}
 use Rattle.plan_check.specs.Verdicts.{IsLegal}
 use Rattle.log_checker.specs.Verdict.{is_wrong, IsFirst}
 use Rattle.judge_answer.specs.Check.{IsLegalWith}
-use Rattle.judge_answer.specs.Verify.{task_of_problem, IsVerified, IsFirstFault}
+use Rattle.instance_facts.specs.Task.{task_of_problem}
+use Rattle.judge_answer.specs.Verify.{IsVerified, IsFirstFault}
 
 module _ (problem : Problem) (table : ℕ → ℕ) (same : table ≡ loss_charge problem.sizes) where
   -- a legal plan

@@ -2,20 +2,16 @@
 use Rattle.std.specs.Prelude.{◌≡◌, ℕ, Bool, List, Some, None}
 use Rattle.mill_model.specs.Instance.{Problem, mill_of, loss_charge}
 use Rattle.mill_model.specs.Plan.{NoneLosesLess}
-use Rattle.mill_model.specs.Log.{Task, Refutes}
+use Rattle.mill_model.specs.Log.{Refutes}
 use Rattle.mill_model.specs.declared.closing.Entry.{Entry}
-use Rattle.mill_laws.specs.LogLaws.{task_of}
 use Rattle.log_checker.specs.Verdict.{is_missing, is_stray, is_unsound, is_wrong, IsFirst}
 use Rattle.reply_text.specs.declared.judgement.Judgement.{Judgement}
 use Rattle.reply_text.specs.declared.judgement.Judgement.TheVariants.{Legal, Verified}
 use Rattle.reply_text.specs.declared.judgement.Judgement.TheVariants.{Missing, Stray, Unsound}
 use Rattle.answer_text.specs.declared.answer.Answer.{Answer}
 use Rattle.answer_text.specs.declared.answer.Answer.TheVariants.{Optimal, Feasible, Infeasible}
+use Rattle.instance_facts.specs.Task.{task_of_problem}
 use Rattle.judge_answer.specs.Check.{IsLegalWith, IsSaidOfPlan, IsSaidOfOrder}
-
--- what a log of a problem is judged by
-abbrev pub task_of_problem : Problem → Task
-task_of_problem problem = task_of (mill_of problem) (loss_charge problem.sizes) problem.orders
 
 -- The plan is legal and loses what is stated, and the log refutes this loss. So, by the law on
 -- logs, no legal plan loses less.

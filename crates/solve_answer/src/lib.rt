@@ -1,13 +1,8 @@
-// A library with one function.
+//! From an instance to an answer: a best plan, the best that a bounded search has found, or the
+//! first order that no slab holds.
 #![tactic(auto)]
 
-ghost use Rattle.std.specs.Prelude.{◌≡◌};
-ghost use Rattle.solve_answer.specs.Echo.{echo_of};
+mod search;
+mod start;
 
-// The `ensures` clause is the contract: what `echo` returns is `echo_of` of its argument, a definition
-// in `specs/Echo.antt`, which a caller's clause can cite too.
-pub fn echo(x: usize) -> usize
-    ensures { result ≡ echo_of x }
-{
-    x
-}
+pub use search::{prove, solve};

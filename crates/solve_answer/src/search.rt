@@ -22,12 +22,13 @@ pub fn solve(alloc: Global, instance: &Instance, limits: Limits) -> Result<Answe
         return Ok(Answer::Infeasible { order });
     }
     let beginning = beginning_of(alloc, instance)?;
+    let start = beginning.start;
     let found = search_tree(
         alloc,
         instance,
         &beginning.ranked,
         &beginning.charges,
-        beginning.start,
+        start,
         limits.nodes,
     )?;
     let answer = answer_of(alloc, found, None)?;
@@ -44,12 +45,13 @@ pub fn prove(alloc: Global, instance: &Instance, limits: Limits) -> Result<Answe
         return Ok(Answer::Infeasible { order });
     }
     let beginning = beginning_of(alloc, instance)?;
+    let start = beginning.start;
     let proved = prove_tree(
         alloc,
         instance,
         &beginning.ranked,
         &beginning.charges,
-        beginning.start,
+        start,
         limits.nodes,
     )?;
     let answer = answer_of(alloc, proved.found, Some(proved.log))?;

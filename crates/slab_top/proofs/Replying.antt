@@ -3,16 +3,20 @@
 use Rattle.std.proofs.Common.{◌≡◌, ◌≢◌, ℕ, Bool, true, false, cond, refl, sym, ap, ◌∙◌, subst}
 use Rattle.std.proofs.Common.{◌⊎◌, inl, inr, arith}
 use Rattle.answer_text.specs.declared.answer.Answer.{Answer}
-use Rattle.answer_text.specs.declared.answer.Answer.TheVariants.{Optimal, Feasible}
+use Rattle.answer_text.specs.declared.answer.Answer.TheVariants.{Optimal, Feasible, Infeasible}
 use Rattle.reply_text.specs.declared.outcome.Outcome.{Outcome}
-use Rattle.reply_text.specs.declared.outcome.Outcome.TheVariants.{Refused, Solved}
-use Rattle.reply_text.specs.declared.status.TheConstants.{FEASIBLE}
+use Rattle.reply_text.specs.declared.outcome.Outcome.TheVariants.{Refused, Solved, Judged}
+use Rattle.reply_text.specs.declared.status.TheConstants.{OPTIMAL, ACCEPTED, INFEASIBLE}
+use Rattle.reply_text.specs.declared.status.TheConstants.{REFUSED, FEASIBLE, READ_FAULT}
+use Rattle.reply_text.specs.declared.status.TheConstants.{WRITE_FAULT, OUT_OF_MEMORY, REJECTED}
+use Rattle.reply_text.specs.Judgement.{is_accepted}
 use Rattle.reply_text.specs.Outcome as told
 use Rattle.solve_answer.specs.Solved.{AgreeOnAnswers}
 use Rattle.slab_top.specs.Stage.{Stage, IsDecided}
 use Rattle.slab_top.specs.Reply.{Replies, Tells}
 use Rattle.slab_top.specs.Served.{Output, WrongWords, Answered, status_of}
 use Rattle.slab_top.specs.Agree.{AgreeOnOutcomes, Agree, MayEndWith}
+use Rattle.slab_top.specs.Run.{IsStatus, IsOwnStatus}
 
 -- ---- agreement
 
@@ -51,6 +55,35 @@ replies-agree stage Says decided agree a b (inr h) (inr k) =
     agree k.0 k.1 a b (subst (λ read. Says read a) same h.2) k.2
 
 -- ---- statuses
+
+-- an outcome's status tells of no failure
+number-own : (status : ℕ) → IsStatus status → status ≢ READ_FAULT → status ≢ WRITE_FAULT →
+    status ≢ OUT_OF_MEMORY → IsOwnStatus status
+number-own status known read written memory = record {
+  known = known;
+  answered = record { read = read; written = written; memory = memory };
+}
+
+answer-own : (answer : Answer) → IsOwnStatus (told.status_of (Solved answer))
+answer-own (Optimal loss plan log) =
+    number-own OPTIMAL refl (λ e. omega (arith, e)) (λ e. omega (arith, e)) (λ e. omega (arith, e))
+answer-own (Feasible loss plan spent) =
+    number-own FEASIBLE refl (λ e. omega (arith, e)) (λ e. omega (arith, e)) (λ e. omega (arith, e))
+answer-own (Infeasible order) =
+    number-own INFEASIBLE refl (λ e. omega (arith, e)) (λ e. omega (arith, e))
+    (λ e. omega (arith, e))
+
+judgement-own : (accepted : Bool) → IsOwnStatus (cond accepted ACCEPTED REJECTED)
+judgement-own true =
+    number-own ACCEPTED refl (λ e. omega (arith, e)) (λ e. omega (arith, e)) (λ e. omega (arith, e))
+judgement-own false =
+    number-own REJECTED refl (λ e. omega (arith, e)) (λ e. omega (arith, e)) (λ e. omega (arith, e))
+
+pub outcome-own : (a : Outcome) → IsOwnStatus (told.status_of a)
+outcome-own (Solved answer) = answer-own answer
+outcome-own (Judged judgement) = judgement-own (is_accepted judgement)
+outcome-own (Refused why) =
+    number-own REFUSED refl (λ e. omega (arith, e)) (λ e. omega (arith, e)) (λ e. omega (arith, e))
 
 -- a refusal isn't feasible, so an outcome isn't if what is said of a value isn't
 pub replies-otherwise : {A : Type 0} (stage : Stage A) (Says : A → Outcome → Type 0)

@@ -22,6 +22,11 @@ pub record IsAnswered (status : ℕ) : Type 0 where
   pub written : status ≢ WRITE_FAULT
   pub memory : status ≢ OUT_OF_MEMORY
 
+-- the status is one that a run ends with, and tells of no failure
+pub record IsOwnStatus (status : ℕ) : Type 0 where
+  pub known : IsStatus status
+  pub answered : IsAnswered status
+
 -- the words ask for a job that reads its input, which is within the limit
 pub record IsToBeRead (words : List (List ℕ)) (input : List ℕ) : Type 0 where
   pub job : Job

@@ -10,13 +10,14 @@ ghost use Rattle.reply_text.specs.declared.status.TheConstants.{FEASIBLE, READ_F
 ghost use Rattle.reply_text.specs.declared.status.TheConstants.{OUT_OF_MEMORY};
 ghost use Rattle.slab_top.specs.Served.{Output, IsRight, IsServed, status_of, text_of};
 ghost use Rattle.slab_top.specs.Agree.{Agree, MayEndWith};
-ghost use Rattle.slab_top.specs.Run.{HasEnough, IsAnswered, IsStatus, IsToBeRead};
+ghost use Rattle.slab_top.specs.Run.{HasEnough, IsAnswered, IsOwnStatus, IsStatus, IsToBeRead};
 
 use crate::commands::serve;
 use job_words::{Job, read_words, write_usage};
 use mill_io::{ReadError, Sink, Source, read_all};
-use reply_text::{OUT_OF_MEMORY, READ_FAULT, WRITE_FAULT, WRONG_WORDS};
-use reply_text::{Outcome, Refusal, Reply, Stop};
+use reply_text::{
+    OUT_OF_MEMORY, Outcome, READ_FAULT, Refusal, Reply, Stop, WRITE_FAULT, WRONG_WORDS,
+};
 use std::alloc::Global;
 
 // Why there is no outcome.
@@ -54,7 +55,7 @@ fn outcome_of<S: Source>(alloc: Global, job: Job, source: &mut S) -> Result<Outc
 
 // Writes a reply, and gives its status where that succeeds. It takes no memory.
 fn write_out<K: Sink>(sink: &mut K, reply: &Reply) -> u8
-    requires known { IsStatus reply.now.status }
+    requires own { IsOwnStatus reply.now.status }
     ensures known { IsStatus result }
     ensures status { result ≢ WRITE_FAULT → result ≡ reply.now.status }
     ensures whole { result ≢ WRITE_FAULT

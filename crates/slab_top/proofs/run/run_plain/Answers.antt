@@ -1,0 +1,103 @@
+use Rattle.std.proofs.Common.{◌≡◌, ◌∙◌, refl, sym, subst}
+use Rattle.std.specs.Io.KnownBytes.{Appends}
+use Rattle.mill_io.specs.Bytes.{AppendsFront}
+use Rattle.job_words.specs.declared.job.Job.{Job}
+use Rattle.job_words.specs.Words.{texts, AskFor}
+use Rattle.slab_top.specs.Served.{WrongWords, Answered}
+use Rattle.slab_top.specs.Agree.{MayEndWith}
+use Rattle.slab_top.specs.Run.{IsOwnStatus}
+use Rattle.slab_top.proofs.Replying.{agree-status, outcome-own}
+use Rattle.slab_top.proofs.Rights.{right-agree, enough-served, ended-for, wrong-agree, unread-for}
+use Rattle.slab_top.proofs.run.run_plain.Goals as goal
+
+pub write_out-requires : goal.write_out-requires
+write_out-requires g c = record {
+  own = subst IsOwnStatus (sym c.in-Ok-reply.ensures.status)
+      (outcome-own c.in-Ok-outcome_of.outcome);
+}
+
+-- Words that ask for a job: the output that was written is right,
+
+pub returns-in-Ok-reply-clause-answered : goal.returns-in-Ok-reply-clause-answered
+returns-in-Ok-reply-clause-answered g c whole = (
+  Answered c.in-Ok-outcome_of.outcome,
+  (c.in-Ok.job, c.in-Ok.ensures.job, c.in-Ok-outcome_of.ensures.served),
+  c.write_out.ensures.status whole.written ∙ c.in-Ok-reply.ensures.status,
+  subst (Appends _ _) c.in-Ok-reply.ensures.text (c.write_out.ensures.whole whole.written),
+)
+
+pub returns-in-Ok-reply-clause-front : goal.returns-in-Ok-reply-clause-front
+returns-in-Ok-reply-clause-front g c failed = (
+  Answered c.in-Ok-outcome_of.outcome,
+  (c.in-Ok.job, c.in-Ok.ensures.job, c.in-Ok-outcome_of.ensures.served),
+  subst (AppendsFront _ _) c.in-Ok-reply.ensures.text (c.write_out.ensures.front failed),
+)
+
+-- and agrees with each other that is.
+
+pub returns-in-Ok-reply-clause-told : goal.returns-in-Ok-reply-clause-told
+returns-in-Ok-reply-clause-told g c whole told output right = (
+  Answered c.in-Ok-outcome_of.outcome,
+  right-agree (texts c.args.words.now) c.in-Ok.job _
+      (λ other asked. let same = c.in-Ok.ensures.asked other asked in cc)
+      c.in-Ok-outcome_of.outcome output c.in-Ok.ensures.job told
+      c.in-Ok-outcome_of.ensures.served right,
+  subst (Appends _ _) c.in-Ok-reply.ensures.text (c.write_out.ensures.whole whole.written),
+)
+
+pub returns-in-Ok-reply-clause-exact : goal.returns-in-Ok-reply-clause-exact
+returns-in-Ok-reply-clause-exact g c whole told output right =
+    let own = c.in-Ok-outcome_of.outcome in
+    let status = c.write_out.ensures.status whole.written ∙ c.in-Ok-reply.ensures.status in
+    subst (MayEndWith output) (sym status)
+    (agree-status (Answered own) output (right-agree (texts c.args.words.now) c.in-Ok.job _
+    (λ other asked. let same = c.in-Ok.ensures.asked other asked in cc) own output
+    c.in-Ok.ensures.job told c.in-Ok-outcome_of.ensures.served right))
+
+pub returns-in-Ok-reply-clause-enough : goal.returns-in-Ok-reply-clause-enough
+returns-in-Ok-reply-clause-enough g c =
+    enough-served (texts c.args.words.now) c.in-Ok.job _
+    (λ other asked. let same = c.in-Ok.ensures.asked other asked in cc)
+    c.in-Ok-outcome_of.outcome c.write_out.result c.in-Ok-outcome_of.ensures.served
+    (λ written. c.write_out.ensures.status written ∙ c.in-Ok-reply.ensures.status)
+
+pub returns-in-Ok-reply-clause-ended : goal.returns-in-Ok-reply-clause-ended
+returns-in-Ok-reply-clause-ended g c whole =
+    ended-for (texts c.args.words.now) c.in-Ok.job _
+    (λ other asked. let same = c.in-Ok.ensures.asked other asked in cc) _
+    c.in-Ok-outcome_of.ensures.ended
+
+-- Words that ask for nothing.
+
+pub returns-in-Ok-write_usage-clause-answered : goal.returns-in-Ok-write_usage-clause-answered
+returns-in-Ok-write_usage-clause-answered g c whole = (
+  WrongWords,
+  λ job asked. let error = c.in_default.ensures.asked job asked in absurd (cc),
+  refl,
+  c.in-Ok-write_usage.ensures.ok,
+)
+
+pub returns-in-Ok-write_usage-clause-told : goal.returns-in-Ok-write_usage-clause-told
+returns-in-Ok-write_usage-clause-told g c whole told output right = (
+  WrongWords,
+  wrong-agree (texts c.args.words.now) _
+      (λ job asked. let error = c.in_default.ensures.asked job asked in absurd (cc)) output right,
+  c.in-Ok-write_usage.ensures.ok,
+)
+
+pub returns-in-Ok-write_usage-clause-exact : goal.returns-in-Ok-write_usage-clause-exact
+returns-in-Ok-write_usage-clause-exact g c whole told output right =
+    agree-status WrongWords output (wrong-agree (texts c.args.words.now) _
+    (λ job asked. let error = c.in_default.ensures.asked job asked in absurd (cc)) output right)
+
+pub returns-in-Ok-write_usage-clause-ended : goal.returns-in-Ok-write_usage-clause-ended
+returns-in-Ok-write_usage-clause-ended g c whole =
+    unread-for (texts c.args.words.now) _
+    (λ job asked. let error = c.in_default.ensures.asked job asked in absurd (cc)) _
+
+pub returns-in-Err-clause-front : goal.returns-in-Err-clause-front
+returns-in-Err-clause-front g c failed = (
+  WrongWords,
+  λ job asked. let error = c.in_default.ensures.asked job asked in absurd (cc),
+  c.in-Err.ensures.err,
+)

@@ -1,4 +1,4 @@
-mod Numbered
+pub mod Numbered
 mod PlanSaid
 pub mod SaidOnce
 mod Tabled

@@ -5,5 +5,5 @@
 mod proof;
 mod stated;
 
-pub use stated::check;
 pub use proof::verify;
+pub use stated::check;

@@ -53,10 +53,10 @@ returns-clause-is c =
           facts.log;
       log = found-where (HasRefutation nodes problem) found.best found.waiting.items found.closed
           (Some log) (λ none. record {
-        refutes = subst (λ charge. Refutes (task_of (mill_of problem) charge problem.orders)
-            found.best.loss log.entries) same (facts.refutes none);
-        few = omega (arith, facts.run.count, facts.budget);
-      });
+            refutes = subst (λ charge. Refutes (task_of (mill_of problem) charge problem.orders)
+                found.best.loss log.entries) same (facts.refutes none);
+            few = omega (arith, facts.run.count, facts.budget);
+          });
     })
 
 pub returns-clause-told : goal.returns-clause-told

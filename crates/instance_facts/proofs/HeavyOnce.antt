@@ -7,7 +7,7 @@ use Rattle.std.proofs.lemmas.List.{get_or-take, length-take}
 use Rattle.std.proofs.lemmas.Option.{get_or_from_slice_get, slice_get_within}
 use Rattle.mill_model.specs.Instance.{Problem, largest}
 use Rattle.mill_model.specs.declared.order.Order.{Order}
-use Rattle.instance_facts.specs.Heavy.{NoneHeavy, IsFirstHeavy, IsFirstHeavyIfAny}
+use Rattle.mill_model.specs.Heavy.{NoneHeavy, IsFirstHeavy, IsFirstHeavyIfAny}
 
 -- an order that is too heavy isn't among light ones
 heavy-outside : (problem : Problem) (place n : ℕ) → IsFirstHeavy problem place → place < n →

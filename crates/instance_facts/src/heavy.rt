@@ -1,5 +1,5 @@
 ghost use Rattle.mill_model.specs.Instance.{IsInstance};
-ghost use Rattle.instance_facts.specs.Heavy.{IsFirstHeavyIfAny};
+ghost use Rattle.mill_model.specs.Heavy.{IsFirstHeavyIfAny};
 
 use mill_model::Instance;
 

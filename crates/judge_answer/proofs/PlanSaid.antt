@@ -1,8 +1,9 @@
 -- What is said of a plan is what the one right verdict on it says.
-use Rattle.std.proofs.Common.{◌≡◌, ◌≢◌, ℕ, Bool, true, false, cond, eqb, List}
-use Rattle.std.proofs.Common.{refl, sym, ap, ◌∙◌, eqb-true, eq-eqb}
+use Rattle.std.proofs.Common.{◌≡◌, ◌≢◌, ℕ, Bool, true, false, cond, eqb, List, refl, sym, ap, ◌∙◌}
+use Rattle.std.proofs.Common.{eqb-true, eq-eqb}
 use Rattle.mill_model.specs.Instance.{Problem, mill_of, loss_charge}
-use Rattle.plan_check.specs.Verdicts.{IsLegal, IsHeavy, IsColourful}
+use Rattle.plan_check.specs.Verdicts.{IsHeavy, IsColourful}
+use Rattle.mill_model.specs.Plan.{IsPlanWithLoss}
 use Rattle.plan_check.specs.declared.verdict.Verdict.{Verdict}
 use Rattle.plan_check.specs.declared.verdict.Verdict.TheVariants as verdict
 use Rattle.plan_check.proofs.Judged.{IsJudged, legal-judged, heavy-judged, colourful-judged}

@@ -18,11 +18,10 @@ use Rattle.reply_text.specs.declared.judgement.Judgement.TheVariants.{Confirmed,
 use Rattle.reply_text.specs.declared.judgement.Judgement.TheVariants.{Legal, Verified, Missing}
 use Rattle.reply_text.specs.declared.judgement.Judgement.TheVariants.{Stray, Unsound, Heavy}
 use Rattle.reply_text.specs.declared.judgement.Judgement.TheVariants.{Colourful, LossDiffers}
-use Rattle.instance_facts.specs.Heavy.{IsFirstHeavyIfAny}
+use Rattle.mill_model.specs.Heavy.{IsFirstHeavyIfAny}
 use Rattle.instance_facts.proofs.HeavyOnce.{any-once}
 use Rattle.judge_answer.specs.Check.{IsSaidOfPlan, IsSaidOfOrder, IsSaidOf}
-use Rattle.instance_facts.specs.Task.{task_of_problem}
-use Rattle.judge_answer.specs.Verify.{IsSaidOfProof, IsVerdictOn, ProvesNothing}
+use Rattle.judge_answer.specs.Verify.{loss_task, IsSaidOfProof, IsVerdictOn, ProvesNothing}
 use Rattle.judge_answer.proofs.PlanSaid.{IsRight, said_by, verdict-once, plan-known, plan-once}
 
 -- ---- an order
@@ -78,7 +77,7 @@ module _ (problem : Problem) (stated : ℕ) (plan : List ℕ) (log : List Entry)
   record OfLog (a : Judgement) : Type 0 where
     verdict_on_log : LogVerdict
     legal : IsRight problem plan (verdict.Legal stated)
-    right : IsVerdict (task_of_problem problem) stated log verdict_on_log
+    right : IsVerdict (loss_task problem) stated log verdict_on_log
     is : judged_by stated verdict_on_log ≡ a
 
   proof-known : (a : Judgement) → IsSaidOfProof problem stated plan log a → OfPlan a ⊎ OfLog a
@@ -88,7 +87,7 @@ module _ (problem : Problem) (stated : ℕ) (plan : List ℕ) (log : List Entry)
         verdict_on_log = log_verdict.Refutes;
         legal = subst (λ l. IsRight problem plan (verdict.Legal l)) (sym said.is_stated)
             said.legal;
-        right = subst (λ l. IsVerdict (task_of_problem problem) l log log_verdict.Refutes)
+        right = subst (λ l. IsVerdict (loss_task problem) l log log_verdict.Refutes)
             (sym said.is_stated) said.refuted;
         is = ap Verified said.is_stated;
       })
@@ -130,7 +129,7 @@ module _ (problem : Problem) (stated : ℕ) (plan : List ℕ) (log : List Entry)
       by_part (inl one) (inr two) = absurd (apart a b one two)
       by_part (inr one) (inl two) = absurd (apart b a two one)
       by_part (inr one) (inr two) =
-          let same = verdict-unique (task_of_problem problem) stated log one.verdict_on_log
+          let same = verdict-unique (loss_task problem) stated log one.verdict_on_log
           two.verdict_on_log one.right two.right in
           sym one.is ∙ ap (judged_by stated) same ∙ two.is
 

@@ -1,19 +1,20 @@
 -- What `check` says of an answer, and where.
 use Rattle.std.specs.Prelude.{◌≡◌, ◌≢◌, ℕ, List, Some}
 use Rattle.mill_model.specs.Instance.{Problem, mill_of, loss_charge}
-use Rattle.plan_check.specs.Verdicts.{IsLegal, IsHeavy, IsColourful}
+use Rattle.plan_check.specs.Verdicts.{IsHeavy, IsColourful}
+use Rattle.mill_model.specs.Plan.{IsPlanWithLoss}
 use Rattle.answer_text.specs.declared.answer.Answer.{Answer}
 use Rattle.answer_text.specs.declared.answer.Answer.TheVariants.{Optimal, Feasible, Infeasible}
 use Rattle.reply_text.specs.declared.judgement.Judgement.{Judgement}
 use Rattle.reply_text.specs.declared.judgement.Judgement.TheVariants.{Legal, Confirmed, Heavy}
 use Rattle.reply_text.specs.declared.judgement.Judgement.TheVariants.{Colourful, LossDiffers}
 use Rattle.reply_text.specs.declared.judgement.Judgement.TheVariants.{OrderDiffers}
-use Rattle.instance_facts.specs.Heavy.{IsFirstHeavy, IsFirstHeavyIfAny}
+use Rattle.mill_model.specs.Heavy.{IsFirstHeavy, IsFirstHeavyIfAny}
 
 -- a plan is legal and loses so much
 abbrev pub IsLegalWith : Problem → List ℕ → ℕ → Type 0
 IsLegalWith problem plan loss =
-    IsLegal (mill_of problem) (loss_charge problem.sizes) problem.orders plan loss
+    IsPlanWithLoss (mill_of problem) (loss_charge problem.sizes) problem.orders plan loss
 
 -- what is said of a plan that is stated to lose so much: first of the plan, then of the loss
 abbrev pub IsSaidOfPlan : Problem → ℕ → List ℕ → Judgement → Type 0

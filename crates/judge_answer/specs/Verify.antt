@@ -2,7 +2,7 @@
 use Rattle.std.specs.Prelude.{◌≡◌, ℕ, Bool, List, Some, None}
 use Rattle.mill_model.specs.Instance.{Problem, mill_of, loss_charge}
 use Rattle.mill_model.specs.Plan.{NoneLosesLess}
-use Rattle.mill_model.specs.Log.{Refutes}
+use Rattle.mill_model.specs.Log.{Task, Refutes, task_of}
 use Rattle.mill_model.specs.declared.closing.Entry.{Entry}
 use Rattle.log_checker.specs.Verdict.{is_missing, is_stray, is_unsound, is_wrong, IsFirst}
 use Rattle.reply_text.specs.declared.judgement.Judgement.{Judgement}
@@ -10,8 +10,11 @@ use Rattle.reply_text.specs.declared.judgement.Judgement.TheVariants.{Legal, Ver
 use Rattle.reply_text.specs.declared.judgement.Judgement.TheVariants.{Missing, Stray, Unsound}
 use Rattle.answer_text.specs.declared.answer.Answer.{Answer}
 use Rattle.answer_text.specs.declared.answer.Answer.TheVariants.{Optimal, Feasible, Infeasible}
-use Rattle.instance_facts.specs.Task.{task_of_problem}
 use Rattle.judge_answer.specs.Check.{IsLegalWith, IsSaidOfPlan, IsSaidOfOrder}
+
+-- what a log of a problem is judged by: by the loss
+abbrev pub loss_task : Problem → Task
+loss_task problem = task_of problem (loss_charge problem.sizes)
 
 -- The plan is legal and loses what is stated, and the log refutes this loss. So, by the law on
 -- logs, no legal plan loses less.
@@ -19,7 +22,7 @@ pub record IsVerified (problem : Problem) (stated : ℕ) (plan : List ℕ) (log 
     (loss : ℕ) : Type 0 where
   pub legal : IsLegalWith problem plan loss
   pub is_stated : stated ≡ loss
-  pub refuted : Refutes (task_of_problem problem) loss log
+  pub refuted : Refutes (loss_task problem) loss log
   pub least : NoneLosesLess (mill_of problem) (loss_charge problem.sizes) problem.orders loss
 
 -- The plan is legal and loses what is stated, and this is the first wrong path of the log, in
@@ -27,17 +30,17 @@ pub record IsVerified (problem : Problem) (stated : ℕ) (plan : List ℕ) (log 
 pub record IsFirstFault (problem : Problem) (stated : ℕ) (plan : List ℕ) (log : List Entry)
     (is_kind : List ℕ → Bool) (path : List ℕ) : Type 0 where
   pub legal : IsLegalWith problem plan stated
-  pub first : IsFirst is_kind (is_wrong (task_of_problem problem) stated log) path
+  pub first : IsFirst is_kind (is_wrong (loss_task problem) stated log) path
 
 -- what is said of a plan, its stated loss and a log, in this order
 abbrev pub IsSaidOfProof : Problem → ℕ → List ℕ → List Entry → Judgement → Type 0
 IsSaidOfProof problem stated plan log (Verified loss) = IsVerified problem stated plan log loss
 IsSaidOfProof problem stated plan log (Missing path) =
-    IsFirstFault problem stated plan log (is_missing (task_of_problem problem) log) path
+    IsFirstFault problem stated plan log (is_missing (loss_task problem) log) path
 IsSaidOfProof problem stated plan log (Stray path) =
-    IsFirstFault problem stated plan log (is_stray (task_of_problem problem) log) path
+    IsFirstFault problem stated plan log (is_stray (loss_task problem) log) path
 IsSaidOfProof problem stated plan log (Unsound path) =
-    IsFirstFault problem stated plan log (is_unsound (task_of_problem problem) stated log) path
+    IsFirstFault problem stated plan log (is_unsound (loss_task problem) stated log) path
 IsSaidOfProof problem stated plan log (Legal loss) = ⊥
 IsSaidOfProof problem stated plan log judgement = IsSaidOfPlan problem stated plan judgement
 

@@ -2,11 +2,10 @@
 use Rattle.std.proofs.Common.{ℕ, zero, suc, ◌+◌, ◌-◌, ◌≤◌, ◌≡◌, Bool, true, false, cond, List, []}
 use Rattle.std.proofs.Common.{◌∷◌, ◌++◌, map, filter, get_or, reverse, refl, ap, ◌∙◌, arith}
 use Rattle.std.proofs.Common.{append_assoc}
-use Rattle.std.proofs.lemmas.List.{reverse-append}
-use Rattle.mill_model.specs.Sets.{below}
+use Rattle.std.proofs.lemmas.List.{reverse-append, map-append}
+use Rattle.list_laws.specs.Sets.{below}
 use Rattle.mill_model.specs.Log.{recorded}
 use Rattle.mill_model.specs.declared.closing.Entry.{Entry}
-use Rattle.std.proofs.lemmas.List.{map-append}
 use Rattle.log_checker.specs.Agenda.{wanted_path, to_come, opened}
 use Rattle.log_checker.specs.declared.agenda.Wanted.{Wanted}
 use Rattle.log_checker.specs.declared.agenda.Wanted.TheVariants.{Child}

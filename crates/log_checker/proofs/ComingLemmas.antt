@@ -1,19 +1,18 @@
 -- The coming colours of a key: which they are, and that nothing else is known of them.
-use Rattle.std.proofs.Common.{ℕ, zero, suc, ◌+◌, ◌-◌, ◌<◌, ◌≤◌, ◌≡◌, ◌⊎◌, Bool, true, false}
-use Rattle.std.proofs.Common.{cond}
-use Rattle.std.proofs.Common.{◌&&◌, List, [], ◌∷◌, ◌++◌, filter, length, take, get_or, set}
-use Rattle.std.proofs.Common.{eqb, ltb}
-use Rattle.std.proofs.Common.{eqb-true, eq-eqb, ne_eqb, le-ltb, ltb-false, refl, sym, ap}
-use Rattle.std.proofs.Common.{ap₂, ◌∙◌}
-use Rattle.std.proofs.Common.{subst, arith, inl, inr, replicate, append-nil, All}
+use Rattle.std.proofs.Common.{ℕ, zero, suc, ◌+◌, ◌-◌, ◌<◌, ◌≤◌, ◌≡◌, ◌⊎◌, Bool, true, false, cond}
+use Rattle.std.proofs.Common.{◌&&◌, List, [], ◌∷◌, ◌++◌, filter, length, take, get_or, set, eqb}
+use Rattle.std.proofs.Common.{ltb, eqb-true, eq-eqb, ne_eqb, le-ltb, ltb-false, refl, sym, ap, ap₂}
+use Rattle.std.proofs.Common.{◌∙◌, subst, arith, inl, inr, replicate, append-nil, All}
 use Rattle.std.proofs.lemmas.Bool.{cases_lt}
 use Rattle.std.proofs.lemmas.List.{get_or_default}
 use Rattle.std.proofs.lemmas.List.Elements.{filter-append, All-append, All-filter}
 use Rattle.std.specs.List.Sorted.{IsPermutation, IsNonDecreasingBy}
 use Rattle.std.proofs.lemmas.List.Sorted.{length_permutation, All-permutation}
-use Rattle.mill_model.specs.Sets.{holds, different, times}
-use Rattle.mill_model.proofs.Different.{either, different-length}
-use Rattle.mill_laws.proofs.Lists.{Among, times-append}
+use Rattle.list_laws.specs.Sets.{holds, different, times}
+use Rattle.list_laws.proofs.Tests.{either}
+use Rattle.list_laws.proofs.Different.{different-length}
+use Rattle.list_laws.proofs.Among.{Among}
+use Rattle.list_laws.proofs.Times.{times-append}
 use Rattle.log_checker.specs.Keys.{AreComing}
 use Rattle.log_checker.proofs.Sorted.{InOrder, in-order-from, times-moved}
 

@@ -1,14 +1,12 @@
 -- The last ranks of the colours, one order more at a time.
-use Rattle.std.proofs.Common.{ℕ, zero, suc, ◌<◌, ◌≤◌, ◌≡◌, ◌≢◌, Bool, true, false, ◌||◌, List}
-use Rattle.std.proofs.Common.{[]}
+use Rattle.std.proofs.Common.{ℕ, zero, suc, ◌<◌, ◌≤◌, ◌≡◌, ◌≢◌, Bool, true, false, ◌||◌, List, []}
 use Rattle.std.proofs.Common.{◌∷◌, ◌++◌, length, take, drop, get_or, set, eqb, ltb, eqb-true}
-use Rattle.std.proofs.Common.{eq-eqb}
-use Rattle.std.proofs.Common.{lt-ltb, le-ltb, refl, ap, ◌∙◌, arith, inl, inr}
+use Rattle.std.proofs.Common.{eq-eqb, lt-ltb, le-ltb, refl, ap, ◌∙◌, arith, inl, inr}
 use Rattle.std.proofs.lemmas.List.{get_or-set_same, get_or-set_other, drop_all}
 use Rattle.std.proofs.lemmas.Bool.{cases_lt}
 use Rattle.mill_model.specs.LiveKey.{has_colour}
 use Rattle.mill_model.specs.declared.order.Order.{Order}
-use Rattle.mill_model.proofs.Different.{either}
+use Rattle.list_laws.proofs.Tests.{either}
 use Rattle.log_checker.specs.Groups.{no_order}
 use Rattle.log_checker.proofs.GroupLemmas.{has-push}
 

@@ -4,18 +4,16 @@ use Rattle.std.proofs.Common.{◌||◌, List, [], ◌∷◌, ◌++◌, map, leng
 use Rattle.std.proofs.Common.{sym, ap, ap₂, ◌∙◌, subst, arith, inl, inr, length-append, eq-eqb}
 use Rattle.std.proofs.Common.{ne_eqb, eqb-true, replicate, set, get_or-set_same, get_or-set_other}
 use Rattle.std.proofs.Common.{◌*◌, ◌≢◌}
-use Rattle.std.proofs.lemmas.List.{take_all, length-set, append-nil, get_or_past}
-use Rattle.mill_model.specs.Sets.{holds, different}
+use Rattle.std.proofs.lemmas.List.{take_all, length-set, append-nil, get_or_past, map-append}
+use Rattle.list_laws.specs.Sets.{holds, different}
 use Rattle.mill_model.specs.Slab.{Mill, load, colours, legal}
 use Rattle.mill_model.specs.Plan.{slab}
 use Rattle.mill_model.specs.Tree.{next_new}
 use Rattle.mill_model.specs.LiveKey.{has_colour}
 use Rattle.mill_model.specs.declared.order.Order.{Order}
-use Rattle.mill_laws.proofs.Canonical.{slab-unused}
-use Rattle.mill_laws.proofs.Different.{load-append}
-use Rattle.mill_model.proofs.Different.{either, holds-append}
-use Rattle.mill_model.proofs.FirstPlaces.{different-push}
-use Rattle.std.proofs.lemmas.List.{map-append}
+use Rattle.mill_model.proofs.Slabs.{slab-unused, load-append}
+use Rattle.list_laws.proofs.Tests.{either}
+use Rattle.list_laws.proofs.Different.{holds-append, different-push}
 use Rattle.log_checker.specs.Groups.{Seen, joined, may_be, IsSeen, nothing_seen, AreGroups}
 
 colours-push : (orders : List Order) (o : Order) →

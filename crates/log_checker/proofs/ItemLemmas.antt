@@ -1,21 +1,16 @@
 -- Items: which orders are among the first of them, and what one item or one run more lets in.
 use Rattle.std.proofs.Common.{ℕ, zero, suc, ◌+◌, ◌-◌, ◌<◌, ◌≤◌, ◌≡◌, ◌≢◌, ◌⊎◌, Bool, true, false}
-use Rattle.std.proofs.Common.{◌&&◌}
-use Rattle.std.proofs.Common.{◌||◌, List, [], ◌∷◌, length, get_or, eqb, eq-eqb}
-use Rattle.std.proofs.Common.{ne_eqb}
+use Rattle.std.proofs.Common.{◌&&◌, ◌||◌, List, [], ◌∷◌, length, get_or, eqb, eq-eqb, ne_eqb}
 use Rattle.std.proofs.Common.{eqb-true, ℤ, pos, Option, leb, leb-true, leb-false, refl, sym, ap}
-use Rattle.std.proofs.Common.{◌∙◌}
-use Rattle.std.proofs.Common.{subst, arith, inl, inr}
+use Rattle.std.proofs.Common.{◌∙◌, subst, arith, inl, inr}
 use Rattle.std.proofs.lemmas.Bool.{cases_lt}
-use Rattle.mill_model.specs.Sets.{holds}
+use Rattle.list_laws.specs.Sets.{holds}
 use Rattle.mill_model.specs.declared.order.Order.{Order}
-use Rattle.mill_laws.proofs.Lists.{and-left, and-right}
-use Rattle.mill_model.proofs.Different.{either, or-cases, or-left, or-right}
+use Rattle.list_laws.proofs.Tests.{and-left, and-right, either, or-cases, or-left, or-right, clash}
 use Rattle.set_minima.specs.Packs.{nobody, colour_at, IsBest, IsTable, IsNext}
-use Rattle.set_minima.proofs.Tops.{clash}
 use Rattle.set_minima.proofs.OneOrder.{best-added, best-heavy, best-allowed}
-use Rattle.log_checker.specs.Tables.{cell, item_at, AreItems, placed, owned}
-use Rattle.log_checker.specs.Tables.{own_placed, let_in, IsStretch, IsRun, no_place}
+use Rattle.log_checker.specs.Tables.{cell, item_at, AreItems, placed, owned, own_placed, let_in}
+use Rattle.log_checker.specs.Tables.{IsStretch, IsRun, no_place}
 use Rattle.log_checker.specs.declared.items.Item.{Item}
 use Rattle.log_checker.proofs.TableSteps.{raised}
 

@@ -1,10 +1,9 @@
 -- Keys: two groups have one exactly where the later orders see them alike, and two paths have the
 -- same live groups exactly where their keys in order are the same.
-use Rattle.std.proofs.Common.{ℕ, zero, suc, ◌+◌, ◌<◌, ◌≡◌, ◌≢◌, ◌||◌, drop, Bool, true}
-use Rattle.std.proofs.Common.{false, cond, not, ◌&&◌, List, []}
-use Rattle.std.proofs.Common.{◌∷◌, ◌++◌, map, length, get_or, eqb, eqb-true, eq-eqb, refl, sym, ap}
-use Rattle.std.proofs.Common.{ap₂, ◌∙◌, subst}
-use Rattle.std.proofs.Common.{arith, inl, inr, All, Ordering, Less, Equal, Greater}
+use Rattle.std.proofs.Common.{ℕ, zero, suc, ◌+◌, ◌<◌, ◌≡◌, ◌≢◌, ◌||◌, drop, Bool, true, false, cond}
+use Rattle.std.proofs.Common.{not, ◌&&◌, List, [], ◌∷◌, ◌++◌, map, length, get_or, eqb, eqb-true}
+use Rattle.std.proofs.Common.{eq-eqb, refl, sym, ap, ap₂, ◌∙◌, subst, arith, inl, inr, All}
+use Rattle.std.proofs.Common.{Ordering, Less, Equal, Greater}
 use Rattle.std.specs.Ordering.{nat_cmp, ordering_then, ordering_reverse, is_lt}
 use Rattle.std.specs.Cmp.{IsTotalOrder}
 use Rattle.std.specs.List.{list_all}
@@ -14,20 +13,17 @@ use Rattle.std.proofs.lemmas.List.MinMax.{ranks_by}
 use Rattle.std.proofs.lemmas.List.Sorted.{sorted_far, IsPermutation-map}
 use Rattle.std.proofs.lemmas.Map.Lookups.{exact_unsigned, exact_bytes}
 use Rattle.mill_model.specs.Instance.{IsOrder}
-use Rattle.mill_model.specs.Sets.{holds, times, same_list, same_times}
+use Rattle.list_laws.specs.Sets.{holds, times, same_list, same_times}
 use Rattle.mill_model.specs.Slab.{Mill}
 use Rattle.mill_model.specs.LiveKey.{has_colour, same_marks}
 use Rattle.mill_model.specs.declared.order.Order.{Order}
-use Rattle.mill_model.proofs.Different.{either}
-use Rattle.mill_laws.proofs.Law.{same_list-refl, same_list-eq}
-use Rattle.mill_laws.proofs.Lists.{Among-unmap, and-left, and-right, same_times-all}
-use Rattle.mill_laws.proofs.Lists.{all-from}
+use Rattle.list_laws.proofs.Tests.{either, and-left, and-right}
+use Rattle.list_laws.proofs.Times.{same_list-refl, same_list-eq, same_times-all}
+use Rattle.list_laws.proofs.Among.{Among-unmap, all-from}
 use Rattle.mill_laws.proofs.Mated.{same_marks-refl}
 use Rattle.log_checker.specs.Groups.{Seen, nothing_seen}
-use Rattle.log_checker.specs.Live.{marks, same_seen, picked, each_as_often}
-use Rattle.log_checker.specs.Live.{same_live_seen}
-use Rattle.log_checker.specs.Keys.{key_order, key_in, group_in, comes_in, IsKey}
-use Rattle.log_checker.specs.Keys.{AreSorted}
+use Rattle.log_checker.specs.Live.{marks, same_seen, picked, each_as_often, same_live_seen}
+use Rattle.log_checker.specs.Keys.{key_order, key_in, group_in, comes_in, IsKey, AreSorted}
 use Rattle.log_checker.specs.Keys.{same_key, same_keys}
 use Rattle.log_checker.specs.declared.key.Key.{Key}
 use Rattle.log_checker.specs.declared.key.LiveGroup.{LiveGroup}

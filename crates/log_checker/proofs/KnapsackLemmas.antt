@@ -1,16 +1,14 @@
 -- The last layer of the tables, and the least slack that its greatest gain is.
-use Rattle.std.proofs.Common.{ℕ, suc, ◌+◌, ◌-◌, ◌*◌, ◌≤◌, ◌≡◌, List, length, drop, get_or, ℤ}
-use Rattle.std.proofs.Common.{pos}
-use Rattle.std.proofs.Common.{neg_ℤ, ◌≤ℤ◌, Option, Some, None, refl, sym, subst, arith}
-use Rattle.std.proofs.Common.{All}
+use Rattle.std.proofs.Common.{ℕ, suc, ◌+◌, ◌-◌, ◌*◌, ◌≤◌, ◌≡◌, List, length, drop, get_or, ℤ, pos}
+use Rattle.std.proofs.Common.{neg_ℤ, ◌≤ℤ◌, Option, Some, None, refl, sym, subst, arith, All}
 use Rattle.std.proofs.Common.{length-drop, Bool, true, false, int_lt, inl, inr, append-nil}
 use Rattle.std.proofs.lemmas.Int.{ints}
 use Rattle.std.proofs.lemmas.List.{get_or_past, get_or-drop}
 use Rattle.std.proofs.lemmas.Bool.{cases_lt}
-use Rattle.mill_model.specs.Sets.{different}
+use Rattle.list_laws.specs.Sets.{different}
 use Rattle.mill_model.specs.Prices.{least_slack}
 use Rattle.mill_model.specs.declared.order.Order.{Order}
-use Rattle.mill_laws.proofs.Slacks.{nothing, nothing-chosen, nothing-length}
+use Rattle.list_laws.proofs.Lists.{nothing, nothing-chosen, nothing-length}
 use Rattle.set_minima.specs.Packs.{IsBest, IsTable, IsTop}
 use Rattle.set_minima.specs.Joins.{gain, Packed, Joins, IsSlab, all_places, opposite}
 use Rattle.set_minima.proofs.Gains.{joins-top, gain-within}

@@ -1,14 +1,12 @@
 -- Layers of tables: one colour more in all of them.
-use Rattle.std.proofs.Common.{ℕ, suc, ◌+◌, ◌-◌, ◌*◌, ◌<◌, ◌≤◌, ◌≡◌, ◌⊎◌}
-use Rattle.std.proofs.Common.{List}
-use Rattle.std.proofs.Common.{length, get_or, ℤ, pos, sym, ◌∙◌, subst, arith, inl}
-use Rattle.std.proofs.Common.{inr}
-use Rattle.std.proofs.Common.{mul-le-mul_right, eq-or-lt_of_le}
+use Rattle.std.proofs.Common.{ℕ, suc, ◌+◌, ◌-◌, ◌*◌, ◌<◌, ◌≤◌, ◌≡◌, ◌⊎◌, List, length, get_or, ℤ}
+use Rattle.std.proofs.Common.{pos, sym, ◌∙◌, subst, arith, inl, inr, mul-le-mul_right}
+use Rattle.std.proofs.Common.{eq-or-lt_of_le}
 use Rattle.std.proofs.lemmas.Int.{ints}
 use Rattle.std.proofs.lemmas.List.{get_or_past}
 use Rattle.std.proofs.lemmas.Bool.{cases_lt}
 use Rattle.std.specs.Int.{int_max}
-use Rattle.mill_model.specs.Sets.{different}
+use Rattle.list_laws.specs.Sets.{different}
 use Rattle.mill_model.specs.declared.order.Order.{Order}
 use Rattle.set_minima.specs.Packs.{IsBest, IsTable}
 use Rattle.set_minima.proofs.OneColour.{layer-keep}

@@ -1,17 +1,17 @@
 -- Live keys from what is seen of groups.
 use Rattle.std.proofs.Common.{ℕ, suc, ◌+◌, ◌≡◌, Bool, true, false, cond, ◌&&◌, ◌||◌, List, [], ◌∷◌}
-use Rattle.std.proofs.Common.{◌++◌, map, filter, length, drop, get_or, eqb, eq-eqb, refl, sym}
-use Rattle.std.proofs.Common.{ap, ap₂, ◌∙◌, arith}
+use Rattle.std.proofs.Common.{◌++◌, map, filter, length, drop, get_or, eqb, eq-eqb, refl, sym, ap}
+use Rattle.std.proofs.Common.{ap₂, ◌∙◌, arith}
 use Rattle.std.specs.List.{list_all}
 use Rattle.std.proofs.lemmas.List.Elements.{filter-append}
-use Rattle.mill_model.specs.Sets.{below, times, same_times, total}
+use Rattle.list_laws.specs.Sets.{below, times, same_times, total}
 use Rattle.mill_model.specs.Slab.{Mill, load}
 use Rattle.mill_model.specs.Plan.{slab}
 use Rattle.mill_model.specs.Tree.{next_new}
 use Rattle.mill_model.specs.LiveKey.{is_live, has_colour, LiveGroup, seen_from, same_group}
 use Rattle.mill_model.specs.LiveKey.{live_groups, same_live_key, dead_loss}
 use Rattle.mill_model.specs.declared.order.Order.{Order}
-use Rattle.mill_laws.proofs.Lists.{total-cong}
+use Rattle.list_laws.proofs.Sums.{total-cong}
 use Rattle.log_checker.specs.Groups.{Seen, joined, nothing_seen, IsSeen, AreGroups}
 use Rattle.log_checker.specs.Live.{lives, marks, same_seen, picked, live_of, each_as_often}
 use Rattle.log_checker.specs.Live.{same_live_seen}

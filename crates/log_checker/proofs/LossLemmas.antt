@@ -1,13 +1,14 @@
 -- The loss of a path by its groups.
 use Rattle.std.proofs.Common.{ℕ, zero, suc, ◌≤◌, ◌≡◌, List, length, get_or, refl, sym, ap, ◌∙◌}
 use Rattle.std.proofs.Common.{arith, inl, inr}
-use Rattle.mill_model.specs.Sets.{total}
+use Rattle.list_laws.specs.Sets.{total}
 use Rattle.mill_model.specs.Slab.{load}
 use Rattle.mill_model.specs.Plan.{slab, loss}
 use Rattle.mill_model.specs.Tree.{next_new}
 use Rattle.mill_model.specs.declared.order.Order.{Order}
-use Rattle.mill_laws.proofs.Canonical.{slab-unused}
-use Rattle.mill_laws.proofs.Lists.{total-cong, last-or-below}
+use Rattle.mill_model.proofs.Slabs.{slab-unused}
+use Rattle.list_laws.proofs.Sums.{total-cong}
+use Rattle.list_laws.proofs.Tests.{last-or-below}
 use Rattle.log_checker.specs.Groups.{Seen, nothing_seen, AreGroups}
 use Rattle.log_checker.proofs.GroupLemmas.{unused}
 

@@ -1,10 +1,10 @@
 -- Numbers of the tables: which of them stand for a set, and how large they get.
-use Rattle.std.proofs.Common.{ℕ, ◌+◌, ◌≤◌, ◌≡◌, ◌⊎◌, true, false}
-use Rattle.std.proofs.Common.{ℤ, pos, neg_ℤ, ◌-ℤ◌, ◌+ℤ◌, ◌≤ℤ◌, ◌<ℤ◌, int_lt, Some, None}
-use Rattle.std.proofs.Common.{ap, ◌∙◌, arith, inl, inr, negsuc, SFits, w64, to_z, of_z, to_z-of_z}
+use Rattle.std.proofs.Common.{ℕ, ◌+◌, ◌≤◌, ◌≡◌, ◌⊎◌, true, false, ℤ, pos, neg_ℤ, ◌-ℤ◌, ◌+ℤ◌, ◌≤ℤ◌}
+use Rattle.std.proofs.Common.{◌<ℤ◌, int_lt, Some, None, ap, ◌∙◌, arith, inl, inr, negsuc, SFits}
+use Rattle.std.proofs.Common.{w64, to_z, of_z, to_z-of_z}
 use Rattle.std.proofs.lemmas.Int.{ints}
 use Rattle.std.specs.Int.{int_max}
-use Rattle.mill_model.proofs.Different.{either}
+use Rattle.list_laws.proofs.Tests.{either}
 use Rattle.set_minima.specs.Packs.{better, with_price}
 use Rattle.log_checker.specs.Tables.{nothing, found, IsNear, IsSmall}
 

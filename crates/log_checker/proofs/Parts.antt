@@ -1,12 +1,10 @@
 -- Paths that part: they differ at a place, the first by the smaller number.
 use Rattle.std.proofs.Common.{ℕ, zero, suc, ◌<◌, ◌≡◌, ◌⊎◌, Bool, true, false, cond, ◌&&◌, ◌||◌}
-use Rattle.std.proofs.Common.{List, []}
-use Rattle.std.proofs.Common.{◌∷◌, ◌++◌, map, filter, eqb, ltb, refl, ap, arith}
-use Rattle.std.proofs.Common.{inl}
-use Rattle.std.proofs.Common.{inr, eqb-true, ltb-true}
-use Rattle.mill_model.specs.Sets.{below}
-use Rattle.mill_laws.proofs.Lists.{and-left, and-right, Among, below-lt}
-use Rattle.mill_model.proofs.Different.{either}
+use Rattle.std.proofs.Common.{List, [], ◌∷◌, ◌++◌, map, filter, eqb, ltb, refl, ap, arith, inl, inr}
+use Rattle.std.proofs.Common.{eqb-true, ltb-true}
+use Rattle.list_laws.specs.Sets.{below}
+use Rattle.list_laws.proofs.Tests.{and-left, and-right, either}
+use Rattle.list_laws.proofs.Among.{Among, below-lt}
 use Rattle.refute_log.specs.Rising.{comes_before}
 use Rattle.refute_log.proofs.Order.{head-less, head-same}
 

@@ -3,16 +3,15 @@ use Rattle.std.proofs.Common.{ℕ, suc, ◌+◌, ◌<◌, ◌≡◌, ◌⊎◌, 
 use Rattle.std.proofs.Common.{List, [], ◌∷◌, ◌++◌, refl, sym, ap, ◌∙◌, subst, arith, inl, inr}
 use Rattle.std.proofs.Common.{append_assoc}
 use Rattle.std.specs.List.{list_all, AllByRecursion}
-use Rattle.mill_model.specs.Sets.{same_list, times, below}
+use Rattle.list_laws.specs.Sets.{same_list, times, below}
 use Rattle.mill_model.specs.Tree.{next_new, may_go_on}
 use Rattle.mill_model.specs.Log.{Task, sound, recorded, left_open, split_children, names_settled}
 use Rattle.mill_model.specs.declared.closing.Entry.{Entry}
 use Rattle.mill_model.specs.declared.closing.Closing.{Closing}
 use Rattle.mill_model.specs.declared.closing.Closing.TheVariants.{Split, Leaf, Priced, Dominated}
-use Rattle.mill_laws.proofs.Law.{same_list-refl, same_list-eq}
-use Rattle.mill_laws.proofs.Lists.{and-left, and-right, Among, all-among, Among-append_right}
-use Rattle.mill_laws.proofs.Lists.{times-append, times-pos}
-use Rattle.mill_model.proofs.Different.{either}
+use Rattle.list_laws.proofs.Times.{same_list-refl, same_list-eq, times-append, times-pos}
+use Rattle.list_laws.proofs.Tests.{and-left, and-right, either}
+use Rattle.list_laws.proofs.Among.{Among, all-among, Among-append_right}
 use Rattle.refute_log.specs.Rising.{comes_before, rises}
 use Rattle.refute_log.proofs.Order.{before-trans, before-differs, before-total, before-child}
 use Rattle.log_checker.proofs.Parts.{parts-before, parts-longer, AllPart, AllPart-append, child-in}

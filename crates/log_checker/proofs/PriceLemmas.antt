@@ -1,14 +1,13 @@
 -- Prices of a record: live groups are legal, and what is known of them serves the knapsack.
-use Rattle.std.proofs.Common.{ℕ, suc, ◌+◌, ◌<◌, ◌≤◌, ◌≡◌, Bool, true, false, List}
-use Rattle.std.proofs.Common.{[], ◌∷◌, ◌++◌}
+use Rattle.std.proofs.Common.{ℕ, suc, ◌+◌, ◌<◌, ◌≤◌, ◌≡◌, Bool, true, false, List, [], ◌∷◌, ◌++◌}
 use Rattle.std.proofs.Common.{length, map, leb, leb-true, refl, sym, ◌∙◌, arith, inl, inr, cond}
 use Rattle.std.proofs.Common.{length-append, get_or, subst, ℤ, ◌+ℤ◌}
 use Rattle.std.proofs.lemmas.List.{get_or_default}
-use Rattle.mill_model.specs.Sets.{holds, different, int_total}
+use Rattle.list_laws.specs.Sets.{holds, different, int_total}
 use Rattle.mill_model.specs.Slab.{Mill, colours}
 use Rattle.mill_model.specs.declared.order.Order.{Order}
-use Rattle.mill_laws.proofs.Lists.{and-left, and-right}
-use Rattle.mill_model.proofs.Different.{or-cases, different-mono}
+use Rattle.list_laws.proofs.Tests.{and-left, and-right, or-cases}
+use Rattle.list_laws.proofs.Different.{different-mono}
 use Rattle.set_minima.specs.Joins.{IsSlab}
 use Rattle.log_checker.specs.Groups.{Seen, IsSeen, with_colour, joined, may_be, nothing_seen}
 use Rattle.log_checker.specs.Groups.{AreGroups}

@@ -1,17 +1,16 @@
 -- Orders in rank, by two stable sorts.
-use Rattle.std.proofs.Common.{ℕ, suc, ◌+◌, ◌-◌, ◌<◌, ◌≤◌, ◌≡◌, ◌⊎◌, true, false, cond}
-use Rattle.std.proofs.Common.{List, [], ◌∷◌, map, length, get_or, refl}
-use Rattle.std.proofs.Common.{sym, ap, ap₂, ◌∙◌, arith, inl, inr}
+use Rattle.std.proofs.Common.{ℕ, suc, ◌+◌, ◌-◌, ◌<◌, ◌≤◌, ◌≡◌, ◌⊎◌, true, false, cond, List, []}
+use Rattle.std.proofs.Common.{◌∷◌, map, length, get_or, refl, sym, ap, ap₂, ◌∙◌, arith, inl, inr}
 use Rattle.std.proofs.lemmas.Bool.Decides.{nat_tests}
 use Rattle.std.specs.List.{All}
 use Rattle.std.specs.List.Sorted.{IsPermutation, IsNonDecreasingBy}
 use Rattle.mill_model.specs.Instance.{IsOrder}
-use Rattle.mill_model.specs.Sets.{times}
+use Rattle.list_laws.specs.Sets.{times}
 use Rattle.mill_model.specs.Rank.{Placed, is_before, same_order, put_in_rank, rank_from}
 use Rattle.mill_model.specs.Rank.{ranked_orders}
 use Rattle.mill_model.specs.declared.order.Order.{Order}
-use Rattle.mill_laws.proofs.Lists.{Among}
-use Rattle.mill_model.proofs.Different.{either}
+use Rattle.list_laws.proofs.Among.{Among}
+use Rattle.list_laws.proofs.Tests.{either}
 use Rattle.log_checker.proofs.Sorted.{InOrder, ordered-same, times-moved}
 
 same-is : (a b : Order) → same_order a b ≡ true → a ≡ b

@@ -1,12 +1,10 @@
 -- The slacks of the groups of a path: one for the live groups of one key, and what a load is
 -- charged
 -- for the others.
-use Rattle.std.proofs.Common.{ℕ, zero, suc, ◌+◌, ◌*◌, ◌<◌, ◌≤◌, ◌≡◌, ◌⊎◌, Bool, true, false}
-use Rattle.std.proofs.Common.{List, [], ◌∷◌}
-use Rattle.std.proofs.Common.{map, drop, length, get_or, set, eqb, eq-eqb, eqb-true, refl}
-use Rattle.std.proofs.Common.{sym, ap, ◌∙◌, subst}
-use Rattle.std.proofs.Common.{arith, inl, inr, All, ℤ, pos, slice_index, ◌+ℤ◌, ◌-◌, ◌++◌, take}
-use Rattle.std.proofs.Common.{◌&&◌, ltb, ltb-true}
+use Rattle.std.proofs.Common.{ℕ, zero, suc, ◌+◌, ◌*◌, ◌<◌, ◌≤◌, ◌≡◌, ◌⊎◌, Bool, true, false, List}
+use Rattle.std.proofs.Common.{[], ◌∷◌, map, drop, length, get_or, set, eqb, eq-eqb, eqb-true, refl}
+use Rattle.std.proofs.Common.{sym, ap, ◌∙◌, subst, arith, inl, inr, All, ℤ, pos, slice_index, ◌+ℤ◌}
+use Rattle.std.proofs.Common.{◌-◌, ◌++◌, take, ◌&&◌, ltb, ltb-true}
 use Rattle.std.proofs.lemmas.Bool.Decides.{nat_tests}
 use Rattle.std.proofs.lemmas.Int.{ints}
 use Rattle.std.proofs.lemmas.List.{take_all, drop_all, drop_more, get_or-set_same, get_or-set_other}
@@ -15,13 +13,13 @@ use Rattle.std.proofs.lemmas.List.Sorted.{All-permutation, IsPermutation-map}
 use Rattle.mill_model.specs.Instance.{IsOrder}
 use Rattle.mill_model.specs.Plan.{slab}
 use Rattle.mill_model.specs.Prices.{least_slack}
-use Rattle.mill_model.specs.Sets.{below, times, int_sum, int_total}
+use Rattle.list_laws.specs.Sets.{below, times, int_sum, int_total}
 use Rattle.mill_model.specs.Slab.{Mill}
 use Rattle.mill_model.specs.LiveKey.{is_live, seen_from}
 use Rattle.mill_model.specs.declared.order.Order.{Order}
-use Rattle.mill_model.proofs.Different.{either}
-use Rattle.mill_laws.proofs.Lists.{Among, Among-filter, Among-unfilter, among-below, below-lt}
-use Rattle.mill_laws.proofs.Lists.{times-pos, times-among, and-left, and-right}
+use Rattle.list_laws.proofs.Tests.{either, and-left, and-right}
+use Rattle.list_laws.proofs.Among.{Among, Among-filter, Among-unfilter, among-below, below-lt}
+use Rattle.list_laws.proofs.Times.{times-pos, times-among}
 use Rattle.mill_laws.proofs.Mated.{same_group-eq}
 use Rattle.set_minima.proofs.Groups.{same-least, dead-least}
 use Rattle.log_checker.specs.Groups.{Seen, IsSeen, AreGroups, nothing_seen}

@@ -4,22 +4,18 @@ use Rattle.std.proofs.Common.{◌∷◌, ◌++◌, length, drop, get_or, map, re
 use Rattle.std.proofs.Common.{arith, leb, leb-true, ltb-true, filter, ltb, lt-ltb, ◌-◌}
 use Rattle.std.proofs.lemmas.List.{drop_more, reverse-append, append-nil, drop_all}
 use Rattle.std.specs.List.{list_all}
-use Rattle.mill_model.specs.Sets.{same_list}
-use Rattle.mill_model.specs.Tree.{next_new}
+use Rattle.list_laws.specs.Sets.{same_list, below}
+use Rattle.mill_model.specs.Tree.{next_new, may_go_on}
 use Rattle.mill_model.specs.Log.{Task, recorded, left_open}
 use Rattle.mill_model.specs.declared.closing.Entry.{Entry}
-use Rattle.mill_laws.proofs.Lists.{and-left, and-right}
-use Rattle.refute_log.specs.Rising.{comes_before}
+use Rattle.list_laws.proofs.Tests.{and-left, and-right}
+use Rattle.refute_log.specs.Rising.{comes_before, rises}
 use Rattle.refute_log.specs.Fits.{path_fits, fits}
 use Rattle.refute_log.proofs.Order.{before-differs, after-differs, before-not}
-use Rattle.log_checker.specs.Verdict.{holds_up, verdict_from}
+use Rattle.log_checker.specs.Verdict.{holds_up, verdict_from, IsVerdict}
 use Rattle.log_checker.specs.Agenda.{wanted_path, to_come, is_within, opened, opened_from}
 use Rattle.log_checker.proofs.AgendaLemmas.{opened-come}
 use Rattle.log_checker.proofs.Pass.{pass-verdict}
-use Rattle.log_checker.specs.Verdict.{IsVerdict}
-use Rattle.refute_log.specs.Rising.{rises}
-use Rattle.mill_model.specs.Tree.{may_go_on}
-use Rattle.mill_model.specs.Sets.{below}
 use Rattle.mill_model.specs.Slab.{Mill}
 use Rattle.mill_model.specs.declared.order.Order.{Order}
 use Rattle.mill_model.specs.declared.closing.Closing.{Closing}

@@ -1,11 +1,9 @@
 -- One entry of a table, and one order in a whole table.
-use Rattle.std.proofs.Common.{ℕ, ◌-◌, ◌<◌, ◌≤◌, ◌≡◌, ◌≢◌, true, false, cond}
-use Rattle.std.proofs.Common.{List}
-use Rattle.std.proofs.Common.{length, get_or, set, ℤ, pos, Option, leb, le-leb, refl}
-use Rattle.std.proofs.Common.{sym, ap}
-use Rattle.std.proofs.Common.{◌∙◌, arith, inl, inr, eqb, eqb-true, eq-eqb}
+use Rattle.std.proofs.Common.{ℕ, ◌-◌, ◌<◌, ◌≤◌, ◌≡◌, ◌≢◌, true, false, cond, List, length, get_or}
+use Rattle.std.proofs.Common.{set, ℤ, pos, Option, leb, le-leb, refl, sym, ap, ◌∙◌, arith, inl, inr}
+use Rattle.std.proofs.Common.{eqb, eqb-true, eq-eqb}
 use Rattle.std.proofs.lemmas.List.{get_or-set_same, get_or-set_other, length-set}
-use Rattle.mill_model.proofs.Different.{either}
+use Rattle.list_laws.proofs.Tests.{either}
 use Rattle.set_minima.specs.Packs.{better, with_price}
 use Rattle.log_checker.specs.Tables.{cell, found, IsNear, AreNear}
 

@@ -1,14 +1,13 @@
 -- Classes and last numbers by place.
 use Rattle.std.proofs.Common.{take, drop, max, sym, ap, ◌∙◌, ℕ, zero, suc, ◌+◌, ◌-◌, ◌<◌, ◌≤◌, ◌≡◌}
-use Rattle.std.proofs.Common.{true, false, not, List, [], ◌∷◌, ◌++◌, length, get_or, refl}
-use Rattle.std.proofs.Common.{arith, leb, le-leb, ◌&&◌, ◌||◌}
+use Rattle.std.proofs.Common.{true, false, not, List, [], ◌∷◌, ◌++◌, length, get_or, refl, arith}
+use Rattle.std.proofs.Common.{leb, le-leb, ◌&&◌, ◌||◌}
 use Rattle.mill_model.specs.Slab.{Mill, legal}
 use Rattle.mill_model.specs.Plan.{slab}
-use Rattle.log_checker.specs.Groups.{Seen, joined, may_be, nothing_seen}
+use Rattle.log_checker.specs.Groups.{Seen, joined, may_be, nothing_seen, IsSeen}
 use Rattle.log_checker.proofs.GroupLemmas.{slab-next, seen-push, may_be-legal}
-use Rattle.log_checker.specs.Groups.{IsSeen}
 use Rattle.std.proofs.lemmas.List.{drop_more}
-use Rattle.mill_laws.proofs.Lists.{next_new-append}
+use Rattle.mill_laws.proofs.Groups.{next_new-append}
 use Rattle.mill_model.specs.Rank.{starts_class_in, same_order}
 use Rattle.mill_model.specs.Tree.{last_number, next_new, may_go_on, goes_on}
 use Rattle.mill_model.specs.declared.order.Order.{Order}

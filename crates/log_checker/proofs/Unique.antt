@@ -2,15 +2,15 @@
 use Rattle.std.proofs.Common.{ℕ, ◌≡◌, Bool, true, false, not, ◌&&◌, ◌||◌, List, [], ◌∷◌, refl, ap}
 use Rattle.std.proofs.Common.{subst, arith, inl, inr}
 use Rattle.std.specs.List.{list_any, AllByRecursion}
-use Rattle.mill_model.specs.Sets.{same_list}
+use Rattle.list_laws.specs.Sets.{same_list}
 use Rattle.mill_model.specs.Log.{Task, sound, names_settled, Refutes}
 use Rattle.mill_model.specs.declared.closing.Entry.{Entry}
-use Rattle.mill_laws.proofs.Law.{same_list-eq}
-use Rattle.mill_model.proofs.Different.{either}
+use Rattle.list_laws.proofs.Times.{same_list-eq}
+use Rattle.list_laws.proofs.Tests.{either}
 use Rattle.refute_log.specs.Rising.{comes_before}
 use Rattle.refute_log.proofs.Order.{before-total}
-use Rattle.log_checker.specs.Verdict.{is_recorded, is_wanted, fails_at, is_missing}
-use Rattle.log_checker.specs.Verdict.{is_stray, is_unsound, is_wrong, IsFirst, IsVerdict}
+use Rattle.log_checker.specs.Verdict.{is_recorded, is_wanted, fails_at, is_missing, is_stray}
+use Rattle.log_checker.specs.Verdict.{is_unsound, is_wrong, IsFirst, IsVerdict}
 use Rattle.log_checker.specs.declared.verdict.LogVerdict.{LogVerdict}
 use Rattle.log_checker.specs.declared.verdict.LogVerdict.TheVariants as verdicts
 use Rattle.log_checker.proofs.Counted.{each_holds_up, right-not_wrong}

@@ -1,12 +1,11 @@
 -- Keys of live groups.
 use Rattle.std.specs.Prelude.{ℕ, ◌<◌, ◌≤◌, ◌≡◌, Bool, true, ◌&&◌, false, cond, eqb, List, [], ◌∷◌}
-use Rattle.std.specs.Prelude.{length, map, All}
-use Rattle.std.specs.Prelude.{slice_index, slice_index_or}
+use Rattle.std.specs.Prelude.{length, map, All, slice_index, slice_index_or}
 use Rattle.std.specs.List.Sorted.{IsPermutation, IsSortedByKey}
 use Rattle.std.specs.Cmp.Lexicographic.{slice_cmp}
 use Rattle.std.specs.Ordering.{nat_cmp, ordering_then}
 use Rattle.std.specs.declared.cmp.Ordering.{Ordering}
-use Rattle.mill_model.specs.Sets.{holds, times, same_list}
+use Rattle.list_laws.specs.Sets.{holds, times, same_list}
 use Rattle.mill_model.specs.Slab.{Mill}
 use Rattle.mill_model.specs.LiveKey.{has_colour}
 use Rattle.mill_model.specs.declared.order.Order.{Order}

@@ -1,12 +1,10 @@
 -- The tables of the checker's knapsack: the best prices of sets of the later orders by load, in
 -- layers by the number of colours. A very low number stands where there is no set.
-use Rattle.std.specs.Prelude.{ℕ, ◌+◌, ◌*◌, ◌<◌, ◌≤◌, ◌≡◌, Bool, false, ◌&&◌, ◌||◌, cond, eqb}
-use Rattle.std.specs.Prelude.{List}
-use Rattle.std.specs.Prelude.{length, take, ℤ, pos, neg_ℤ, ◌-ℤ◌, ◌+ℤ◌, ◌≤ℤ◌, int_lt, Option}
-use Rattle.std.specs.Prelude.{Some}
+use Rattle.std.specs.Prelude.{ℕ, ◌+◌, ◌*◌, ◌<◌, ◌≤◌, ◌≡◌, Bool, false, ◌&&◌, ◌||◌, cond, eqb, List}
+use Rattle.std.specs.Prelude.{length, take, ℤ, pos, neg_ℤ, ◌-ℤ◌, ◌+ℤ◌, ◌≤ℤ◌, int_lt, Option, Some}
 use Rattle.std.specs.Prelude.{None, slice_index_or, ◌⊎◌}
 use Rattle.std.specs.List.{list_any}
-use Rattle.mill_model.specs.Sets.{holds}
+use Rattle.list_laws.specs.Sets.{holds}
 use Rattle.mill_model.specs.declared.order.Order.{Order}
 use Rattle.set_minima.specs.Packs.{IsTable, colour_at, IsNextColour}
 use Rattle.set_minima.specs.Joins.{AreOrders}

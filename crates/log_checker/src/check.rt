@@ -1,7 +1,7 @@
 ghost use Rattle.std.specs.Prelude.{◌≡◌, ◌<◌, ◌≤◌, ◌+◌, ◌↔◌, ℕ, [], ◌∷◌, ◌++◌, drop, length, IfOk};
 ghost use Rattle.std.specs.Prelude.{OnOk, IfSome, IfNone, true, false, List, cond, slice_index};
 ghost use Rattle.std.specs.List.{list_all};
-ghost use Rattle.mill_model.specs.Sets.{same_list};
+ghost use Rattle.list_laws.specs.Sets.{same_list};
 ghost use Rattle.mill_model.specs.Log.{recorded, left_open, Refutes as LogRefutes};
 ghost use Rattle.refute_log.specs.Rising.{comes_before, rises};
 ghost use Rattle.refute_log.specs.Fits.{path_fits, fits};

@@ -1,7 +1,7 @@
 ghost use Rattle.std.specs.Prelude.{◌≡◌, ◌<◌, ◌≤◌, ◌^◌, ◌+◌, ◌*◌, ℕ, [], OnOk, IfOk, length};
 ghost use Rattle.std.specs.Prelude.{replicate, slice_index_or, slice_set};
 ghost use Rattle.mill_model.specs.Tree.{next_new};
-ghost use Rattle.mill_model.specs.Sets.{holds};
+ghost use Rattle.list_laws.specs.Sets.{holds};
 ghost use Rattle.log_checker.specs.Groups.{joined, may_be, with_colour, nothing_seen, AreGroups};
 ghost use Rattle.log_checker.specs.Judged.{mill_by};
 

@@ -1,8 +1,7 @@
 ghost use Rattle.std.specs.Prelude.{◌≡◌, ◌<◌, ◌≤◌, ◌+◌, ◌*◌, ℕ, List, IfOk, OnOk, drop, length};
-ghost use Rattle.std.specs.Prelude.{true};
-ghost use Rattle.std.specs.Prelude.{slice_index_or, slice_set, IfSome, IfNone, false};
+ghost use Rattle.std.specs.Prelude.{true, slice_index_or, slice_set, IfSome, IfNone, false};
 ghost use Rattle.std.specs.List.Sorted.{IsPermutation, IsSortedByKey};
-ghost use Rattle.mill_model.specs.Sets.{different};
+ghost use Rattle.list_laws.specs.Sets.{different};
 ghost use Rattle.log_checker.specs.Groups.{Seen, nothing_seen};
 ghost use Rattle.log_checker.specs.Judged.{mill_by};
 ghost use Rattle.log_checker.specs.Live.{lives, same_live_seen};

@@ -2,7 +2,7 @@
 
 ghost use Rattle.std.specs.Prelude.{◌≡◌, ℕ, List, Bool, ◌+◌, ◌-◌, ◌*◌, ◌<◌, ◌≤◌, ◌^◌, All, IfOk};
 ghost use Rattle.std.specs.Prelude.{length, slice_index, pos, neg_ℤ, ℤ, drop, suc, Some, None};
-ghost use Rattle.mill_model.specs.Sets.{different};
+ghost use Rattle.list_laws.specs.Sets.{different};
 ghost use Rattle.mill_model.specs.Prices.{least_slack};
 ghost use Rattle.mill_model.specs.declared.order.Order.{Order};
 ghost use Rattle.set_minima.specs.Packs.{IsTable, IsTop};

@@ -4,7 +4,7 @@
 ghost use Rattle.std.specs.Prelude.{◌≡◌, ℕ, List, suc, ◌+◌, ◌-◌, ◌*◌, ◌^◌, ◌<◌, ◌≤◌, ◌⊎◌, ◌≢◌};
 ghost use Rattle.std.specs.Prelude.{length, slice_index_or, pos};
 ghost use Rattle.std.specs.Int.{int_max};
-ghost use Rattle.mill_model.specs.Sets.{different};
+ghost use Rattle.list_laws.specs.Sets.{different};
 ghost use Rattle.set_minima.specs.Joins.{all_places};
 ghost use Rattle.log_checker.specs.Tables.{cell, AreNear, IsStretch, item_at};
 ghost use Rattle.log_checker.specs.Stocked.{IsStocked, IsTableOf, AreLayersOf, IsRunOf, let_to};

@@ -1,7 +1,7 @@
 ghost use Rattle.std.specs.Prelude.{◌≡◌, ◌≤◌, ◌*◌, ◌+◌, ℕ, cond, drop, length, slice_index};
 ghost use Rattle.std.specs.Prelude.{slice_index_or};
 ghost use Rattle.std.specs.List.{list_any};
-ghost use Rattle.mill_model.specs.Sets.{total};
+ghost use Rattle.list_laws.specs.Sets.{total};
 ghost use Rattle.log_checker.specs.Groups.{nothing_seen};
 ghost use Rattle.log_checker.specs.Live.{lives, takes_of};
 ghost use Rattle.log_checker.specs.Judged.{mill_by};

@@ -6,7 +6,7 @@ ghost use Rattle.std.specs.Prelude.{◌-ℤ◌, ◌*ℤ◌, pos, int_lt};
 ghost use Rattle.mill_model.specs.Limits.{IsPrice};
 ghost use Rattle.mill_model.specs.Log.{sound};
 ghost use Rattle.mill_model.specs.Prices.{least_slack, valid};
-ghost use Rattle.mill_model.specs.Sets.{different, int_sum};
+ghost use Rattle.list_laws.specs.Sets.{different, int_sum};
 ghost use Rattle.mill_model.specs.Tree.{next_new};
 ghost use Rattle.mill_model.specs.declared.order.Order.{Order};
 ghost use Rattle.mill_model.specs.declared.closing.Closing.TheVariants.{Priced};

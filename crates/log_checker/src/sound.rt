@@ -1,6 +1,6 @@
-ghost use Rattle.std.specs.Prelude.{◌≡◌, ◌<◌, ◌≤◌, ◌&&◌, leb, length, slice_index};
-ghost use Rattle.std.specs.Prelude.{slice_index_or, IfOk, true};
-ghost use Rattle.mill_model.specs.Sets.{total};
+ghost use Rattle.std.specs.Prelude.{◌≡◌, ◌<◌, ◌≤◌, ◌&&◌, leb, length, slice_index, slice_index_or};
+ghost use Rattle.std.specs.Prelude.{IfOk, true};
+ghost use Rattle.list_laws.specs.Sets.{total};
 ghost use Rattle.mill_model.specs.LiveKey.{same_live_key, dead_loss};
 ghost use Rattle.mill_model.specs.Log.{sound, recorded};
 ghost use Rattle.mill_model.specs.declared.closing.Closing.TheVariants.{Leaf, Priced, Dominated};

@@ -2,7 +2,7 @@
 
 ghost use Rattle.std.specs.Prelude.{◌≡◌, ℕ, List, Bool, true, ◌+◌, ◌-◌, ◌^◌, ◌<◌, ◌≤◌, ◌∷◌, leb};
 ghost use Rattle.std.specs.Prelude.{cond, length};
-ghost use Rattle.mill_model.specs.Sets.{holds};
+ghost use Rattle.list_laws.specs.Sets.{holds};
 ghost use Rattle.set_minima.specs.Packs.{better, with_price, colour_at, IsNext};
 ghost use Rattle.log_checker.specs.Tables.{cell, found, IsNear, AreNear, IsSmall, no_place};
 ghost use Rattle.log_checker.specs.Stocked.{IsStocked, IsTableOf, IsRunOf, let_to, own_of, own_to};

@@ -72,7 +72,7 @@ fn charge(load: u64) -> u64
 }
 
 fn charges_up_to(alloc: Global, largest: u32) -> Result<Charges, OutOfMemory>
-    ensures { IfOk result (λ charges. length charges ≡ largest + 1) }
+    ensures { IfOk result (λ charges. length charges.list ≡ largest + 1) }
 {
     let mut table = vec![in alloc; 0]?;
     for load in 0..largest {

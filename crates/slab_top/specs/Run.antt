@@ -1,14 +1,14 @@
 -- What a run ends with: its status, and what it has read.
 use Rattle.std.specs.Prelude.{◌≡◌, ◌≢◌, ℕ, ◌≤◌, List, [], ◌∷◌, length, IsTrue}
 use Rattle.mill_model.specs.Instance.{Problem}
-use Rattle.mill_model.specs.Sets.{holds}
+use Rattle.list_laws.specs.Sets.{holds}
 use Rattle.mill_model.specs.Size.{enough}
 use Rattle.instance_text.specs.Text.{IsInstanceText}
 use Rattle.job_words.specs.declared.job.Job.{Job}
 use Rattle.job_words.specs.Words.{AskFor, limit_of}
-use Rattle.reply_text.specs.declared.status.TheConstants.{OPTIMAL, INFEASIBLE, WRONG_WORDS}
-use Rattle.reply_text.specs.declared.status.TheConstants.{REFUSED, FEASIBLE, READ_FAULT}
-use Rattle.reply_text.specs.declared.status.TheConstants.{WRITE_FAULT, OUT_OF_MEMORY, REJECTED}
+use Rattle.reply_text.specs.declared.status.TheConstants.{OPTIMAL, INFEASIBLE, WRONG_WORDS, REFUSED}
+use Rattle.reply_text.specs.declared.status.TheConstants.{FEASIBLE, READ_FAULT, WRITE_FAULT}
+use Rattle.reply_text.specs.declared.status.TheConstants.{OUT_OF_MEMORY, REJECTED}
 
 -- the statuses that a run ends with
 abbrev pub IsStatus : ℕ → Type 0

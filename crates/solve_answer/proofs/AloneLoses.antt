@@ -1,20 +1,20 @@
 -- The plan that gives each order a slab of its own loses what the orders lose alone.
-use Rattle.std.proofs.Common.{◌≡◌, ℕ, zero, suc, ◌+◌, ◌<◌, ◌≤◌, List, [], ◌∷◌, ◌++◌, length}
-use Rattle.std.proofs.Common.{take, drop, get_or, refl, ap, ap₂, ◌∙◌, arith, drop-cons}
-use Rattle.std.proofs.Common.{append-nil, ne_eqb, eq-eqb}
+use Rattle.std.proofs.Common.{◌≡◌, ℕ, zero, suc, ◌+◌, ◌<◌, ◌≤◌, List, [], ◌∷◌, ◌++◌, length, take}
+use Rattle.std.proofs.Common.{drop, get_or, refl, ap, ap₂, ◌∙◌, arith, drop-cons, append-nil}
+use Rattle.std.proofs.Common.{ne_eqb, eq-eqb}
 use Rattle.std.specs.Prelude.{sum_by}
 use Rattle.std.proofs.Math.Seq.{take-suc}
 use Rattle.std.proofs.lemmas.List.{take_all}
 use Rattle.std.proofs.lemmas.List.Sums.{sum_by-append}
-use Rattle.mill_model.specs.Sets.{total, below}
+use Rattle.list_laws.specs.Sets.{total, below}
 use Rattle.mill_model.specs.Slab.{load}
 use Rattle.mill_model.specs.Plan.{slab, loss}
 use Rattle.mill_model.specs.declared.order.Order.{Order}
-use Rattle.mill_laws.proofs.Lists.{total-cong}
-use Rattle.mill_laws.proofs.Canonical.{next_new-le, slab-unused}
-use Rattle.mill_laws.proofs.Duality.{slab-append, slab-new}
-use Rattle.mill_laws.proofs.Mated.{holds-below-lt}
-use Rattle.mill_laws.proofs.PlanLaws.{below-length}
+use Rattle.list_laws.proofs.Sums.{total-cong}
+use Rattle.mill_laws.proofs.Groups.{next_new-le, slab-new}
+use Rattle.mill_model.proofs.Slabs.{slab-unused, slab-append}
+use Rattle.list_laws.proofs.Different.{holds-below-lt}
+use Rattle.list_laws.proofs.Lists.{length-below}
 
 module _ (charge : ℕ → ℕ) (orders : List Order) where
   -- what the first orders lose where each has a slab of its own
@@ -37,7 +37,7 @@ module _ (charge : ℕ → ℕ) (orders : List Order) where
       (next_new-le k (below k) (λ s held. holds-below-lt s k held)) in
       let rest = drop-cons orders k o inside in
       slab-append k (below k) (k ∷ []) orders
-      ∙ rw (new, below-length k, rest, eq-eqb k k refl) refl
+      ∙ rw (new, length-below k, rest, eq-eqb k k refl) refl
 
   lost-alone : (k : ℕ) → k ≤ length orders →
       lost k ≡ sum_by (λ order. charge order.weight) (take k orders)

@@ -1,30 +1,28 @@
 -- What a search of the tree has found is what is answered. A search goes by a table of charges; as
 -- the table is the charge of the definition, all is said here of that charge.
-use Rattle.std.proofs.Common.{◌≡◌, ℕ, ◌<◌, ◌≤◌, List, [], ◌∷◌, length, refl, sym, ap, ◌∙◌}
-use Rattle.std.proofs.Common.{subst, arith}
+use Rattle.std.proofs.Common.{◌≡◌, ℕ, ◌<◌, ◌≤◌, List, [], ◌∷◌, length, refl, sym, ap, ◌∙◌, subst}
+use Rattle.std.proofs.Common.{arith}
 use Rattle.std.specs.Prelude.{Option, Some, None, IfSome}
 use Rattle.std.proofs.lemmas.Option.{slice_get_within}
-use Rattle.mill_model.specs.Sets.{below}
+use Rattle.list_laws.specs.Sets.{below}
 use Rattle.mill_model.specs.Instance.{Problem, IsInstance, largest, mill_of, loss_charge}
 use Rattle.mill_model.specs.Plan.{NoneLosesLess}
+use Rattle.mill_model.specs.Best.{IsStartOf, IsTidyPlan, loss_alone}
 use Rattle.mill_model.specs.Size.{enough}
 use Rattle.mill_model.specs.Tree.{canonical}
 use Rattle.mill_model.specs.declared.plan.Start.{Start}
-use Rattle.mill_laws.specs.LogLaws.{task_of}
 use Rattle.mill_laws.specs.PlanLaws.{EachFits}
 use Rattle.mill_laws.proofs.PlanLaws.{canonical-form-is-legal, canonical-form-is-its-own}
 use Rattle.mill_laws.proofs.PlanLaws.{canonical-form-loses-the-same, each-alone-is-legal}
-use Rattle.tree_search.specs.Search.{IsPlanWithLoss}
+use Rattle.mill_model.specs.Best.{IsStartOf}
 use Rattle.refute_log.specs.Logged.{Logged, IsLog}
 use Rattle.answer_text.specs.Text.{Fits, refutation_of, most_orders}
 use Rattle.answer_text.specs.declared.answer.Answer.{Answer}
 use Rattle.answer_text.specs.declared.answer.Answer.TheVariants.{Infeasible}
 use Rattle.answer_text.proofs.Printed.{may-print, read-back}
-use Rattle.instance_facts.specs.Heavy.{NoneHeavy, IsFirstHeavy}
-use Rattle.solve_answer.specs.Best.{IsTidyPlan, loss_alone}
+use Rattle.mill_model.specs.Heavy.{NoneHeavy, IsFirstHeavy}
 use Rattle.solve_answer.specs.Search.{answer_from}
-use Rattle.solve_answer.specs.Solved.{IsSolution, IsTold, WhereOptimal, IsRefutation}
-use Rattle.solve_answer.specs.Solved.{HasRefutation}
+use Rattle.solve_answer.specs.Solved.{IsSolution, IsTold, WhereOptimal, IsRefutation, HasRefutation}
 use Rattle.solve_answer.proofs.AloneLoses.{alone-loses}
 use Rattle.solve_answer.proofs.LossLimit.{optimal-fits, feasible-fits}
 
@@ -32,13 +30,13 @@ module _ (problem : Problem) where
   -- a legal plan with its loss by a charge
   abbrev pub IsFoundPlan : (ℕ → ℕ) → Start → Type 0
   IsFoundPlan charge start =
-      IsPlanWithLoss (task_of (mill_of problem) charge problem.orders) problem.orders start
+      IsStartOf problem charge start
 
   -- what a search by a charge has found, of which some paths wait
   pub record HasFound (charge : ℕ → ℕ) (nodes : ℕ) (best : Start) (waiting : List (List ℕ))
       (closed : ℕ) : Type 0 where
     pub plan : IsFoundPlan charge best
-    pub no_worse : best.loss ≤ loss_alone problem
+    pub no_worse : best.loss ≤ loss_alone (mill_of problem) (loss_charge problem.sizes) problem.orders
     pub least : waiting ≡ [] → NoneLosesLess (mill_of problem) charge problem.orders best.loss
     pub few : closed ≤ 1000000000
     pub spent : 0 < length waiting → closed ≡ nodes
@@ -46,7 +44,8 @@ module _ (problem : Problem) where
 
   -- the plan that gives each order a slab of its own may begin a search
   pub alone-starts : (start : Start) → EachFits (mill_of problem) problem.orders →
-      start.plan ≡ below (length problem.orders) → start.loss ≡ loss_alone problem →
+      start.plan ≡ below (length problem.orders) →
+      start.loss ≡ loss_alone (mill_of problem) (loss_charge problem.sizes) problem.orders →
       IsFoundPlan (loss_charge problem.sizes) start
   alone-starts start fits plan lost = record {
     legal = rw plan (each-alone-is-legal (mill_of problem) problem.orders fits);
@@ -55,12 +54,15 @@ module _ (problem : Problem) where
 
   -- a plan that was found is told in canonical form
   found-tidy : (best : Start) → IsFoundPlan (loss_charge problem.sizes) best →
-      IsTidyPlan problem (record { plan = canonical best.plan; loss = best.loss })
+      IsTidyPlan (mill_of problem) (loss_charge problem.sizes) problem.orders
+      (record { plan = canonical best.plan; loss = best.loss })
   found-tidy best found = record {
-    fine = canonical-form-is-legal (mill_of problem) problem.orders best.plan found.legal;
+    found = record {
+      legal = canonical-form-is-legal (mill_of problem) problem.orders best.plan found.legal;
+      loses = canonical-form-loses-the-same (mill_of problem) (loss_charge problem.sizes)
+          problem.orders best.plan refl found.legal ∙ found.loses;
+    };
     tidy = canonical-form-is-its-own best.plan;
-    loses = canonical-form-loses-the-same (mill_of problem) (loss_charge problem.sizes)
-        problem.orders best.plan refl found.legal ∙ found.loses;
   }
 
   -- What a search of an instance that has no heavy order has found.

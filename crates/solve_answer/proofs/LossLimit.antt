@@ -1,18 +1,18 @@
 -- What a plan loses is within the limit of an answer's text, and so are its numbers.
-use Rattle.std.proofs.Common.{◌≡◌, ℕ, zero, suc, ◌*◌, ◌<◌, ◌≤◌, Bool, true, false, cond, ltb}
-use Rattle.std.proofs.Common.{List, [], ◌∷◌, length, max, leb, eqb, arith, eqb-true, ltb-true}
+use Rattle.std.proofs.Common.{◌≡◌, ℕ, zero, suc, ◌*◌, ◌<◌, ◌≤◌, Bool, true, false, cond, ltb, List}
+use Rattle.std.proofs.Common.{[], ◌∷◌, length, max, leb, eqb, arith, eqb-true, ltb-true}
 use Rattle.std.specs.Prelude.{All, Option, Some, IfSome}
 use Rattle.std.specs.List.{list_all}
-use Rattle.mill_model.specs.Sets.{total}
+use Rattle.list_laws.specs.Sets.{total}
+use Rattle.mill_model.specs.Best.{IsTidyPlan}
 use Rattle.mill_model.specs.Slab.{load}
 use Rattle.mill_model.specs.Instance.{Problem, IsInstance, IsSize, largest, loss_charge}
-use Rattle.mill_model.specs.Instance.{excess, size_for}
-use Rattle.mill_model.specs.Plan.{slab}
-use Rattle.mill_laws.proofs.Lists.{and-left, and-right}
+use Rattle.mill_model.specs.Instance.{excess, size_for, mill_of}
+use Rattle.mill_model.specs.Plan.{slab, loss, IsLegalPlan}
+use Rattle.list_laws.proofs.Tests.{and-left, and-right}
 use Rattle.refute_log.specs.Logged.{Logged}
 use Rattle.answer_text.specs.declared.answer.Answer.TheVariants.{Optimal, Feasible}
 use Rattle.answer_text.specs.Text.{Fits}
-use Rattle.solve_answer.specs.Best.{IsLegalFor, IsTidyPlan, loss_of}
 
 -- numbers below the number of orders, each of them
 numbers-below : (n : ℕ) (plan : List ℕ) → list_all (λ s. ltb s n) plan ≡ true →
@@ -59,7 +59,7 @@ total-limit (suc n) f each =
     let here = each n in let before = total-limit n f each in omega arith
 
 pub loss-limit : (problem : Problem) (plan : List ℕ) → IsInstance problem →
-    loss_of problem plan ≤ 1000000000000
+    loss (loss_charge problem.sizes) plan problem.orders ≤ 1000000000000
 loss-limit problem plan instance =
     let few = instance.within.few_orders in
     let all = total-limit (length problem.orders)
@@ -74,7 +74,8 @@ loss-limit problem plan instance =
         omega arith
 
 -- so the numbers of an answer with a tidy plan are within the limits of its text
-numbers-told : (problem : Problem) (plan : List ℕ) → IsLegalFor problem plan →
+numbers-told : (problem : Problem) (plan : List ℕ) → 
+    IsLegalPlan (mill_of problem) problem.orders plan →
     (length plan ≡ length problem.orders) × All (λ s. s < length problem.orders) plan
 numbers-told problem plan fine =
     let each = fine.each in (
@@ -85,24 +86,26 @@ numbers-told problem plan fine =
     )
 
 pub optimal-fits : (problem : Problem) (plan : List ℕ) (lost : ℕ) (log : Option Logged) →
-    IsInstance problem → IsTidyPlan problem (record { plan = plan; loss = lost }) →
+    IsInstance problem → IsTidyPlan (mill_of problem) (loss_charge problem.sizes) problem.orders
+    (record { plan = plan; loss = lost }) →
     IfSome log (λ log. log.orders ≡ length problem.orders) →
     Fits (length problem.orders) (Optimal lost plan log)
 optimal-fits problem plan lost log instance found orders =
     let limit = loss-limit problem plan instance in
-    let loses = found.loses in
+    let loses = found.found.loses in
     record {
-      numbers = (tt, (omega arith, (numbers-told problem plan found.fine, tt)));
+      numbers = (tt, (omega arith, (numbers-told problem plan found.found.legal, tt)));
       refutation = orders;
     }
 
 pub feasible-fits : (problem : Problem) (plan : List ℕ) (lost spent : ℕ) → IsInstance problem →
-    IsTidyPlan problem (record { plan = plan; loss = lost }) → spent ≤ 1000000000 →
+    IsTidyPlan (mill_of problem) (loss_charge problem.sizes) problem.orders
+    (record { plan = plan; loss = lost }) → spent ≤ 1000000000 →
     Fits (length problem.orders) (Feasible lost plan spent)
 feasible-fits problem plan lost spent instance found few =
     let limit = loss-limit problem plan instance in
-    let loses = found.loses in
+    let loses = found.found.loses in
     record {
-      numbers = (tt, (omega arith, (numbers-told problem plan found.fine, (few, tt))));
+      numbers = (tt, (omega arith, (numbers-told problem plan found.found.legal, (few, tt))));
       refutation = tt;
     }

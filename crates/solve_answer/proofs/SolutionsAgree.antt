@@ -2,20 +2,22 @@
 -- any other.
 use Rattle.std.proofs.Common.{◌≡◌, ℕ, ◌≤◌, List, sym, ap, ◌∙◌, subst, arith}
 use Rattle.std.specs.Prelude.{length}
-use Rattle.mill_model.specs.Instance.{Problem}
+use Rattle.mill_model.specs.Best.{IsTidyPlan, IsBest}
+use Rattle.mill_model.specs.Instance.{Problem, mill_of, loss_charge}
 use Rattle.mill_model.specs.Size.{enough}
 use Rattle.answer_text.specs.declared.answer.Answer.{Answer}
 use Rattle.answer_text.specs.declared.answer.Answer.TheVariants.{Optimal, Feasible, Infeasible}
 use Rattle.instance_facts.proofs.HeavyOnce.{heavy-once, heavy-or-none}
-use Rattle.solve_answer.specs.Best.{IsTidyPlan, IsBest}
 use Rattle.solve_answer.specs.Solved.{IsSolution, AgreeOnAnswers}
 
 -- a best plan loses no more than another one
 none-better : (problem : Problem) (loss : ℕ) (plan : List ℕ) (other : ℕ) (slabs : List ℕ) →
-    IsBest problem (record { plan = plan; loss = loss }) →
-    IsTidyPlan problem (record { plan = slabs; loss = other }) → loss ≤ other
+    IsBest (mill_of problem) (loss_charge problem.sizes) problem.orders
+    (record { plan = plan; loss = loss }) →
+    IsTidyPlan (mill_of problem) (loss_charge problem.sizes) problem.orders
+    (record { plan = slabs; loss = other }) → loss ≤ other
 none-better problem loss plan other slabs best found =
-    subst (λ n. loss ≤ n) found.loses (best.least slabs found.fine)
+    subst (λ n. loss ≤ n) found.found.loses (best.least slabs found.found.legal)
 
 -- solutions agree
 pub solutions-agree : (nodes : ℕ) (problem : Problem) (a b : Answer) → IsSolution nodes problem a →

@@ -1,26 +1,27 @@
 -- What is answered to a problem, and where two answers agree.
 use Rattle.std.specs.Prelude.{◌≡◌, ℕ, ◌≤◌, List, length, Option, Some, None}
-use Rattle.mill_model.specs.Instance.{Problem, largest}
-use Rattle.mill_model.specs.Log.{Refutes}
+use Rattle.mill_model.specs.Best.{IsBest, IsFeasible}
+use Rattle.mill_model.specs.Instance.{Problem, largest, mill_of, loss_charge}
+use Rattle.mill_model.specs.Log.{Refutes, task_of}
 use Rattle.mill_model.specs.declared.closing.Entry.{Entry}
 use Rattle.line_text.specs.Lines.{text_lines}
 use Rattle.refute_log.specs.Logged.{Logged}
 use Rattle.answer_text.specs.declared.answer.Answer.{Answer}
 use Rattle.answer_text.specs.declared.answer.Answer.TheVariants.{Optimal, Feasible, Infeasible}
 use Rattle.answer_text.specs.Text.{answer_text, IsAnswerText}
-use Rattle.instance_facts.specs.Heavy.{IsFirstHeavy, NoneHeavy}
-use Rattle.instance_facts.specs.Task.{task_of_problem}
-use Rattle.solve_answer.specs.Best.{IsBest, IsFeasible}
+use Rattle.mill_model.specs.Heavy.{IsFirstHeavy, NoneHeavy}
 
 -- an answer is right, with a budget of so many nodes
 abbrev pub IsSolution : ℕ → Problem → Answer → Type 0
 IsSolution nodes problem (Infeasible place) = IsFirstHeavy problem place
 IsSolution nodes problem (Optimal loss plan refutation) =
     NoneHeavy (largest problem.sizes) problem.orders
-    × IsBest problem (record { plan = plan; loss = loss })
+    × IsBest (mill_of problem) (loss_charge problem.sizes) problem.orders
+    (record { plan = plan; loss = loss })
 IsSolution nodes problem (Feasible loss plan spent) =
     NoneHeavy (largest problem.sizes) problem.orders
-    × IsFeasible nodes problem (record { plan = plan; loss = loss }) spent
+    × IsFeasible (mill_of problem) (loss_charge problem.sizes) problem.orders nodes
+    (record { plan = plan; loss = loss }) spent
 
 -- what is said of its loss and its log, where it is optimal
 abbrev pub WhereOptimal : (ℕ → Option Logged → Type 0) → Answer → Type 0
@@ -30,7 +31,7 @@ WhereOptimal Is answer = Unit {0}
 -- a log refutes a loss, and has at most so many records
 pub record IsRefutation (nodes : ℕ) (problem : Problem) (loss : ℕ) (log : List Entry)
     : Type 0 where
-  pub refutes : Refutes (task_of_problem problem) loss log
+  pub refutes : Refutes (task_of problem (loss_charge problem.sizes)) loss log
   pub few : length log ≤ nodes
 
 -- there is such a log

@@ -1,9 +1,9 @@
 ghost use Rattle.std.specs.Prelude.{◌≡◌, length, IfOk};
-ghost use Rattle.mill_model.specs.Instance.{IsInstance, largest};
-ghost use Rattle.mill_model.specs.Sets.{below};
+ghost use Rattle.mill_model.specs.Instance.{IsInstance, largest, loss_charge, mill_of};
+ghost use Rattle.list_laws.specs.Sets.{below};
 ghost use Rattle.loss_table.specs.Charges.{AreCharges};
-ghost use Rattle.instance_facts.specs.Heavy.{NoneHeavy};
-ghost use Rattle.solve_answer.specs.Best.{loss_alone};
+ghost use Rattle.mill_model.specs.Heavy.{NoneHeavy};
+ghost use Rattle.mill_model.specs.Best.{loss_alone};
 ghost use Rattle.solve_answer.specs.Search.{IsBeginning};
 
 use loss_table::loss_charges;
@@ -40,7 +40,8 @@ fn each_alone(alloc: Global, instance: &Instance, charges: &Charges) -> Result<S
     requires charges { AreCharges instance.now charges.now }
     requires light { NoneHeavy (largest instance.now.sizes) instance.now.orders }
     ensures plan { IfOk result (λ start. start.plan ≡ below (length instance.now.orders)) }
-    ensures loss { IfOk result (λ start. start.loss ≡ loss_alone instance.now) }
+    ensures loss { IfOk result (λ start. start.loss ≡ loss_alone
+        (mill_of instance.now) (loss_charge instance.now.sizes) instance.now.orders) }
     ensures kept { IsInstance instance.now }
 {
     let orders = instance.orders();

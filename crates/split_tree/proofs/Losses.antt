@@ -2,7 +2,7 @@
 use Rattle.std.proofs.Common.{ℕ, suc, ◌+◌, ◌<◌, ◌≤◌, ◌≡◌, List, length, get_or, Some, refl, sym, ap}
 use Rattle.std.proofs.Common.{◌∙◌, arith}
 use Rattle.std.proofs.lemmas.Option.{slice_get-get_or}
-use Rattle.mill_model.specs.Sets.{total}
+use Rattle.list_laws.specs.Sets.{total}
 use Rattle.mill_model.specs.Slab.{load}
 use Rattle.slab_rules.specs.OpenSlab.{OpenSlab}
 use Rattle.split_tree.specs.Node.{Node, IsGroup, AreGroups, group_of, groups_loss}

@@ -1,17 +1,16 @@
 -- The walk along a path of the tree: its groups, and those with one more number.
-use Rattle.std.proofs.Common.{ℕ, zero, suc, ◌+◌, ◌<◌, ◌≤◌, ◌≡◌, true, false, List, []}
-use Rattle.std.proofs.Common.{◌∷◌, ◌++◌, length, drop, take, get_or, eqb, leb, Some, refl, sym}
-use Rattle.std.proofs.Common.{ap, ◌∙◌, arith, inl, inr, eqb-true, false-eqb, append_assoc}
-use Rattle.std.proofs.Common.{append-nil, leb-true, leb-false, subst}
+use Rattle.std.proofs.Common.{ℕ, zero, suc, ◌+◌, ◌<◌, ◌≤◌, ◌≡◌, true, false, List, [], ◌∷◌, ◌++◌}
+use Rattle.std.proofs.Common.{length, drop, take, get_or, eqb, leb, Some, refl, sym, ap, ◌∙◌, arith}
+use Rattle.std.proofs.Common.{inl, inr, eqb-true, false-eqb, append_assoc, append-nil, leb-true}
+use Rattle.std.proofs.Common.{leb-false, subst}
 use Rattle.std.proofs.lemmas.List.{take_more, length-take-le}
 use Rattle.std.specs.List.{slice_get}
 use Rattle.mill_model.specs.Slab.{Mill, legal}
 use Rattle.mill_model.specs.Plan.{slab}
 use Rattle.mill_model.specs.Tree.{next_new, goes_on, in_tree, may_go_on}
 use Rattle.mill_model.specs.declared.order.Order.{Order}
-use Rattle.mill_laws.proofs.Lists.{and-right}
-use Rattle.mill_laws.proofs.Different.{either}
-use Rattle.mill_laws.proofs.Forms.{next_new-push}
+use Rattle.list_laws.proofs.Tests.{and-right, either}
+use Rattle.mill_laws.proofs.Groups.{next_new-push, slab-new}
 use Rattle.mill_laws.proofs.Paths.{goes-first, goes-later, may-next, may-fits}
 use Rattle.order_symmetry.specs.Ranked.{RankedOrders, orders_of}
 use Rattle.slab_rules.specs.OpenSlab.{OpenSlab, empty_on, joined, IsWithinBounds, IsOpenSlab}
@@ -21,7 +20,6 @@ use Rattle.slab_rules.proofs.Joined.{bounds-legal}
 use Rattle.split_tree.specs.Node.{Node, IsGroup, AreGroups, group_of}
 use Rattle.split_tree.specs.Groups.{slab_at, with_order}
 use Rattle.split_tree.proofs.Joins.{at-old, at-joined, length-with_order, slab_at-get, slab_at-new}
-use Rattle.mill_laws.proofs.Duality.{slab-new}
 use Rattle.split_tree.proofs.Pushes.{slab-same, slab-other}
 
 -- what goes on, goes on behind its front
@@ -84,8 +82,7 @@ module _ (ranked : RankedOrders) (path : List ℕ) (i : ℕ) (order : Order)
       goes-first ranked.mill (orders_of ranked) (take i path) g (drop (suc i) path)
       (goes-behind ranked.mill (orders_of ranked) [] (take i path) (g ∷ drop (suc i) path)
       (subst (λ xs. goes_on ranked.mill (orders_of ranked) [] xs ≡ true)
-      (take-drop-one path i below)
-      (and-right (leb (length path) (length (orders_of ranked))) _ tree)))
+      (take-drop-one path i below) tree))
 
   grown : group_of after g ≡ group_of before g ++ order ∷ []
   grown = ap (λ xs. slab g xs (orders_of ranked)) more

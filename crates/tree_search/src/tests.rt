@@ -3,7 +3,9 @@
 ghost use Rattle.std.specs.Prelude.{◌≡◌, ◌+◌, ◌≤◌, length, slice_index, IfOk, IfSome};
 ghost use Rattle.mill_model.specs.Instance.{largest};
 ghost use Rattle.order_symmetry.specs.Ranked.{IsRankOf};
-ghost use Rattle.tree_search.specs.Search.{IsPlanWithLoss, task_for};
+ghost use Rattle.mill_model.specs.Best.{IsStartOf};
+ghost use Rattle.mill_model.specs.Charges.{Reaches, charge_of};
+ghost use Rattle.mill_model.specs.Instance.{mill_of};
 
 use super::*;
 use mill_model::{Charges, Instance, Order, OutOfMemory, Path, Start};
@@ -25,8 +27,7 @@ struct Setting {
     ranked: Ranked,
     charges: Charges,
     ghost ranks: { IsRankOf instance ranked },
-    ghost reach: { length charges ≡ largest instance.sizes + 1 },
-    ghost free: { slice_index charges 0 ≡ 0 },
+    ghost reach: { Reaches charges (mill_of instance) },
 }
 
 impl Setting {
@@ -56,8 +57,8 @@ impl Setting {
 
     // The plan of the leaf that lies under the last child of each path above it.
     fn each_alone(&self, alloc: Global) -> Result<Option<Start>, OutOfMemory>
-        ensures { IfOk result (λ start. IfSome start (IsPlanWithLoss
-            (task_for self.now.instance self.now.charges) self.now.instance.orders)) }
+        ensures { IfOk result (λ start. IfSome start (IsStartOf self.now.instance
+            (charge_of self.now.charges))) }
     {
         let mut path = Path::root(alloc);
         for _ in 0..self.ranked.len() {

@@ -3,7 +3,7 @@ use Rattle.std.proofs.lemmas.List.{take_all}
 use Rattle.std.proofs.lemmas.List.Elements.{All-more}
 use Rattle.mill_model.specs.Instance.{largest}
 use Rattle.mill_model.specs.declared.order.Order.{Order}
-use Rattle.instance_facts.specs.Heavy.{NoneHeavy}
+use Rattle.mill_model.specs.Heavy.{NoneHeavy}
 use Rattle.instance_facts.proofs.heavy.first_heavy.Goals as goal
 
 pub loop-place-preserved : goal.loop-place-preserved

@@ -1,6 +1,6 @@
 use Rattle.std.proofs.Common.{take}
 use Rattle.mill_model.specs.Instance.{largest}
-use Rattle.instance_facts.specs.Heavy.{NoneHeavy}
+use Rattle.mill_model.specs.Heavy.{NoneHeavy}
 use Rattle.instance_facts.proofs.heavy.first_heavy.Given as goal
 
 abbrev pub invariant-loop-place : goal.invariant-loop-place

@@ -1,5 +1,5 @@
 use Rattle.std.proofs.Common.{◌≡◌, ◌++◌, ◌∷◌, [], sym, rules, true, false}
-use Rattle.mill_model.specs.Sets.{same_list}
+use Rattle.list_laws.specs.Sets.{same_list}
 use Rattle.log_checker.specs.Judged.{task_by}
 use Rattle.log_checker.specs.Verdict.{holds_up}
 use Rattle.log_checker.proofs.StepLemmas.{step-unsound, step-goes, step-within}

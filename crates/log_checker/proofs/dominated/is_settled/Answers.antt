@@ -1,5 +1,5 @@
 use Rattle.std.proofs.Common.{◌≡◌, ◌<◌, ◌+◌, ◌-◌, ◌/◌, length, sym, arith, rules, true}
-use Rattle.mill_model.specs.Sets.{same_list}
+use Rattle.list_laws.specs.Sets.{same_list}
 use Rattle.refute_log.specs.Rising.{path_order}
 use Rattle.refute_log.proofs.Order.{order-same, order-before, order-after}
 use Rattle.std.specs.declared.cmp.Ordering.TheVariants as order

@@ -1,9 +1,8 @@
-use Rattle.std.proofs.Common.{◌∙◌, ◌++◌, ◌∷◌, [], sym, ap, ap₂, drop, map, filter, get_or, ℕ}
-use Rattle.std.proofs.Common.{Bool, cond}
-use Rattle.std.proofs.Common.{append-nil, subst, All}
+use Rattle.std.proofs.Common.{◌∙◌, ◌++◌, ◌∷◌, [], sym, ap, ap₂, drop, map, filter, get_or, ℕ, Bool}
+use Rattle.std.proofs.Common.{cond, append-nil, subst, All}
 use Rattle.std.proofs.lemmas.List.{map-append}
 use Rattle.std.proofs.lemmas.List.Elements.{All-push}
-use Rattle.mill_model.specs.Sets.{below}
+use Rattle.list_laws.specs.Sets.{below}
 use Rattle.log_checker.specs.Groups.{nothing_seen}
 use Rattle.log_checker.specs.Judged.{mill_by}
 use Rattle.log_checker.specs.Keys.{IsKey, group_in}

@@ -1,5 +1,5 @@
 use Rattle.std.proofs.Common.{◌≡◌, All, drop, filter, map, slice_index_or}
-use Rattle.mill_model.specs.Sets.{below}
+use Rattle.list_laws.specs.Sets.{below}
 use Rattle.log_checker.specs.Groups.{nothing_seen}
 use Rattle.log_checker.specs.Live.{lives}
 use Rattle.log_checker.specs.Judged.{mill_by}

@@ -1,7 +1,5 @@
-use Rattle.std.proofs.Common.{◌≡◌, ℕ, zero, suc, ◌+◌, ◌<◌, ◌∙◌, length}
-use Rattle.std.proofs.Common.{sym, subst}
-use Rattle.std.proofs.Common.{refl}
-use Rattle.mill_model.specs.Sets.{different}
+use Rattle.std.proofs.Common.{◌≡◌, ℕ, zero, suc, ◌+◌, ◌<◌, ◌∙◌, length, sym, subst, refl}
+use Rattle.list_laws.specs.Sets.{different}
 use Rattle.set_minima.specs.Packs.{IsBest}
 use Rattle.set_minima.proofs.OneColour.{layer-spread, table-none, table-empty}
 use Rattle.log_checker.specs.Tables.{cell, found, owned, no_place}

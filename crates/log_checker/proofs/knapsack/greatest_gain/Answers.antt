@@ -1,6 +1,6 @@
-use Rattle.std.proofs.Common.{◌≡◌, ℕ, List, ◌+◌, ◌-◌, ◌*◌, ◌∙◌, length, SFits, w64}
-use Rattle.std.proofs.Common.{to_z-of_z, rules, arith, subst, slice_index, refl}
-use Rattle.mill_model.specs.Sets.{different}
+use Rattle.std.proofs.Common.{◌≡◌, ℕ, List, ◌+◌, ◌-◌, ◌*◌, ◌∙◌, length, SFits, w64, to_z-of_z}
+use Rattle.std.proofs.Common.{rules, arith, subst, slice_index, refl}
+use Rattle.list_laws.specs.Sets.{different}
 use Rattle.set_minima.specs.Packs.{IsTop}
 use Rattle.set_minima.specs.Joins.{gain, Joins, all_places}
 use Rattle.log_checker.specs.Tables.{found}

@@ -1,5 +1,5 @@
 use Rattle.std.proofs.Common.{◌≡◌, ℕ, List, ◌+◌, ◌-◌, ◌*◌, ◌<◌, ◌≤◌, length, pos, slice_index_or}
-use Rattle.mill_model.specs.Sets.{different}
+use Rattle.list_laws.specs.Sets.{different}
 use Rattle.log_checker.specs.Tables.{cell, AreNear}
 use Rattle.log_checker.specs.Stocked.{let_to, IsRunOf, IsTableOf, AreLayersOf}
 use Rattle.log_checker.proofs.layers.add_colour.Given as goal

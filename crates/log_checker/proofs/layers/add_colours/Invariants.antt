@@ -1,5 +1,5 @@
 use Rattle.std.proofs.Common.{◌≡◌, ℕ, ◌+◌, ◌-◌, ◌*◌, ◌<◌, ◌≤◌, length}
-use Rattle.mill_model.specs.Sets.{different}
+use Rattle.list_laws.specs.Sets.{different}
 use Rattle.log_checker.specs.Tables.{item_at, AreNear}
 use Rattle.log_checker.specs.Stocked.{let_to, own_of, AreLayersOf}
 use Rattle.log_checker.proofs.layers.add_colours.Given as goal

@@ -1,5 +1,5 @@
 use Rattle.std.proofs.Common.{◌≡◌, true, false, length, sym, ◌+◌, ◌*◌}
-use Rattle.mill_model.specs.Sets.{holds}
+use Rattle.list_laws.specs.Sets.{holds}
 use Rattle.log_checker.specs.Tables.{cell, item_at}
 use Rattle.log_checker.specs.Stocked.{let_to}
 use Rattle.log_checker.proofs.ItemLemmas.{run-own, run-new, table-allowed}

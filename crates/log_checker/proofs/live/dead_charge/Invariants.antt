@@ -1,5 +1,5 @@
 use Rattle.std.proofs.Common.{◌≡◌, ◌≤◌, ◌*◌, drop, cond, slice_index, slice_index_or}
-use Rattle.mill_model.specs.Sets.{total}
+use Rattle.list_laws.specs.Sets.{total}
 use Rattle.log_checker.specs.Groups.{nothing_seen}
 use Rattle.log_checker.specs.Live.{lives}
 use Rattle.log_checker.specs.Judged.{mill_by}

@@ -1,11 +1,10 @@
 use Rattle.std.proofs.Common.{ℕ, ℤ, ◌≡◌, ◌+◌, ◌≤◌, ◌∙◌, ◌+ℤ◌, ◌-ℤ◌, ◌*ℤ◌, true, length, drop, pos}
-use Rattle.std.proofs.Common.{int_lt, eqb}
-use Rattle.std.proofs.Common.{eq-eqb, arith, ap, ap₂, sym, SFits, w64, to_z-of_z, rules}
-use Rattle.std.proofs.Common.{slice_index, refl}
+use Rattle.std.proofs.Common.{int_lt, eqb, eq-eqb, arith, ap, ap₂, sym, SFits, w64, to_z-of_z}
+use Rattle.std.proofs.Common.{rules, slice_index, refl}
 use Rattle.std.proofs.lemmas.Int.{ints}
 use Rattle.mill_model.specs.Tree.{next_new}
 use Rattle.mill_model.specs.Prices.{valid, worth}
-use Rattle.mill_model.specs.Sets.{int_sum, int_total}
+use Rattle.list_laws.specs.Sets.{int_sum, int_total}
 use Rattle.log_checker.specs.Judged.{mill_by}
 use Rattle.log_checker.specs.Slacks.{slack_of}
 use Rattle.log_checker.proofs.Numbers.{fits-64}

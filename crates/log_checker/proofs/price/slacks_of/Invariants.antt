@@ -1,5 +1,5 @@
 use Rattle.std.proofs.Common.{◌≡◌, ◌+◌, ◌<◌, ◌⊎◌, ℕ, length, All, pos, get_or, map, drop}
-use Rattle.mill_laws.proofs.Lists.{Among}
+use Rattle.list_laws.proofs.Among.{Among}
 use Rattle.log_checker.specs.Judged.{mill_by}
 use Rattle.log_checker.specs.Keys.{group_in}
 use Rattle.log_checker.specs.Slacks.{slack_of, no_live}

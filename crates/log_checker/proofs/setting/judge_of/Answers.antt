@@ -1,6 +1,6 @@
 use Rattle.std.proofs.Common.{◌≡◌, ◌≤◌, ◌+◌, ◌∙◌, length, arith, ap, sym}
 use Rattle.mill_model.specs.Instance.{largest}
-use Rattle.log_checker.proofs.SettingLemmas.{largest-small}
+use Rattle.mill_model.proofs.Sizes.{largest-small}
 use Rattle.log_checker.proofs.setting.judge_of.Goals as goal
 
 pub table-requires-clause-small : goal.table-requires-clause-small

@@ -1,8 +1,7 @@
-use Rattle.std.proofs.Common.{true, ◌≡◌, ◌+◌, ◌-◌, ◌*◌, ◌∷◌, false, get_or, pos}
-use Rattle.std.proofs.Common.{length, arith, subst}
-use Rattle.std.proofs.Common.{sym, eq-eqb, eqb, refl}
-use Rattle.mill_model.specs.Sets.{holds}
-use Rattle.mill_model.proofs.Different.{or-left}
+use Rattle.std.proofs.Common.{true, ◌≡◌, ◌+◌, ◌-◌, ◌*◌, ◌∷◌, false, get_or, pos, length, arith}
+use Rattle.std.proofs.Common.{subst, sym, eq-eqb, eqb, refl}
+use Rattle.list_laws.specs.Sets.{holds}
+use Rattle.list_laws.proofs.Tests.{or-left}
 use Rattle.set_minima.specs.Packs.{colour_at}
 use Rattle.log_checker.specs.Tables.{cell, item_at}
 use Rattle.log_checker.specs.Stocked.{let_to, IsTableOf}

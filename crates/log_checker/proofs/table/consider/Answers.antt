@@ -1,5 +1,5 @@
 use Rattle.std.proofs.Common.{◌≡◌, ◌+◌, true, false, length, sym, ◌∙◌}
-use Rattle.mill_model.specs.Sets.{holds}
+use Rattle.list_laws.specs.Sets.{holds}
 use Rattle.set_minima.specs.Packs.{colour_at}
 use Rattle.log_checker.specs.Tables.{cell, item_at}
 use Rattle.log_checker.specs.Stocked.{own_to}

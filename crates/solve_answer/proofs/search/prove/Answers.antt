@@ -1,8 +1,8 @@
 use Rattle.std.proofs.Common.{◌≡◌, length, vec_len, rules, arith, refl, sym, subst}
-use Rattle.std.specs.Prelude.{Some, slice_index}
+use Rattle.std.specs.Prelude.{Some}
 use Rattle.mill_model.specs.Instance.{mill_of}
-use Rattle.mill_model.specs.Log.{Refutes}
-use Rattle.mill_laws.specs.LogLaws.{task_of}
+use Rattle.mill_model.specs.Log.{Refutes, task_of}
+use Rattle.mill_model.specs.Charges.{charge_of}
 use Rattle.instance_facts.proofs.Charged.{table-is-charge}
 use Rattle.solve_answer.specs.Solved.{IsProved, HasRefutation}
 use Rattle.solve_answer.proofs.FoundSolved.{HasFound, found-told, found-where, infeasible-told}
@@ -35,7 +35,7 @@ returns-clause-is c =
     let facts = c.in_ok-proved.ensures in
     let same = table-is-charge problem c.in_ok-beginning.beginning.charges beginning.charged in
     let count : vec_len found.waiting ≡ length found.waiting.items = search rules in
-    let has : HasFound problem (λ load. slice_index c.in_ok-beginning.beginning.charges load)
+    let has : HasFound problem (charge_of c.in_ok-beginning.beginning.charges)
     nodes found.best found.waiting.items found.closed = record {
       plan = facts.plan;
       no_worse = omega (arith, facts.no_worse, beginning.alone);
@@ -53,7 +53,7 @@ returns-clause-is c =
           facts.log;
       log = found-where (HasRefutation nodes problem) found.best found.waiting.items found.closed
           (Some log) (λ none. record {
-            refutes = subst (λ charge. Refutes (task_of (mill_of problem) charge problem.orders)
+            refutes = subst (λ charge. Refutes (task_of problem charge)
                 found.best.loss log.entries) same (facts.refutes none);
             few = omega (arith, facts.run.count, facts.budget);
           });

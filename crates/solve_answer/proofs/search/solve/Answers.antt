@@ -1,5 +1,6 @@
 use Rattle.std.proofs.Common.{◌≡◌, length, vec_len, rules, arith, refl, sym, subst}
-use Rattle.std.specs.Prelude.{None, slice_index}
+use Rattle.std.specs.Prelude.{None}
+use Rattle.mill_model.specs.Charges.{charge_of}
 use Rattle.instance_facts.proofs.Charged.{table-is-charge}
 use Rattle.solve_answer.specs.Solved.{IsSolved}
 use Rattle.solve_answer.proofs.FoundSolved.{HasFound, found-told, found-where, infeasible-told}
@@ -30,7 +31,7 @@ returns-clause-is c =
     let found = c.in_ok-found.found in
     let facts = c.in_ok-found.ensures in
     let count : vec_len found.waiting ≡ length found.waiting.items = search rules in
-    let has : HasFound problem (λ load. slice_index c.in_ok-beginning.beginning.charges load)
+    let has : HasFound problem (charge_of c.in_ok-beginning.beginning.charges)
     nodes found.best found.waiting.items found.closed = record {
       plan = facts.plan;
       no_worse = omega (arith, facts.no_worse, beginning.alone);

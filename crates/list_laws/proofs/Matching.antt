@@ -1,11 +1,17 @@
 -- Two lists of numbers whose keys are one multiset can be matched, number by number: the first
 -- number takes a mate with its key out of the other list, and so on.
-use Rattle.std.proofs.Common.{ℕ, suc, ◌+◌, ◌≡◌, eqb, Bool, true, false, cond, List, [], ◌∷◌, ◌++◌}
-use Rattle.std.proofs.Common.{map, length, refl, ap, ap₂, arith, inl, inr, length-append}
-use Rattle.mill_model.specs.Sets.{holds, different, SameTimes}
-use Rattle.mill_laws.proofs.Lists.{Among, map-append, times-pos, times-among, times-append}
-use Rattle.mill_laws.proofs.Different.{either, or-cases, or-left, or-right, Within, holds-append}
-use Rattle.mill_laws.proofs.Different.{different-mono, different-length}
+use Rattle.std.proofs.Common.{ℕ, zero, suc, ◌+◌, ◌≡◌, ◌≢◌, eqb, Bool, true, false, cond, List, []}
+use Rattle.std.proofs.Common.{◌∷◌, ◌++◌, map, filter, length, refl, sym, ap, ap₂, ◌∙◌, arith, inl}
+use Rattle.std.proofs.Common.{inr, subst, eqb-true, eq-eqb, ne_eqb, length-append, append-nil}
+use Rattle.std.proofs.lemmas.List.{map-append}
+use Rattle.std.proofs.lemmas.List.Elements.{filter-append}
+use Rattle.list_laws.specs.Sets.{holds, different, below, total, SameTimes}
+use Rattle.list_laws.proofs.Tests.{either, or-cases, or-left, or-right}
+use Rattle.list_laws.proofs.Lists.{length-push}
+use Rattle.list_laws.proofs.Among.{Among}
+use Rattle.list_laws.proofs.Different.{Within, different-mono, holds-append, different-length}
+use Rattle.list_laws.proofs.Different.{different-push, holds-unfilter, holds-below-lt}
+use Rattle.list_laws.proofs.Times.{times-append, times-pos, times-among}
 
 -- the sum of f over a list
 abbrev pub sum_of : (ℕ → ℕ) → List ℕ → ℕ
@@ -15,6 +21,17 @@ sum_of f (x ∷ xs) = f x + sum_of f xs
 pub sum_of-append : (f : ℕ → ℕ) (xs ys : List ℕ) → sum_of f (xs ++ ys) ≡ sum_of f xs + sum_of f ys
 sum_of-append f [] ys = omega arith
 sum_of-append f (x ∷ xs) ys = omega (arith, sum_of-append f xs ys)
+
+-- of values that are told by keys
+pub sum-keys : {X : Type 0} (kx ky : ℕ → X) (value : X → ℕ) (xs zs : List ℕ) →
+    map kx xs ≡ map ky zs → sum_of (λ g. value (kx g)) xs ≡ sum_of (λ g. value (ky g)) zs
+sum-keys kx ky value [] [] e = refl
+sum-keys kx ky value [] (z ∷ zs) e = absurd (cc)
+sum-keys kx ky value (x ∷ xs) [] e = absurd (cc)
+sum-keys kx ky value (x ∷ xs) (z ∷ zs) e =
+    let head : kx x ≡ ky z = cc in
+    let tail : map kx xs ≡ map ky zs = cc in
+    ap₂ (λ a b. a + b) (ap value head) (sum-keys kx ky value xs zs tail)
 
 -- no number stands twice
 abbrev pub AllApart : List ℕ → Type 0
@@ -29,6 +46,31 @@ apart-head x xs h = elim (either (holds x xs)) [
 
 pub apart-cons : (x : ℕ) (xs : List ℕ) → holds x xs ≡ false → AllApart xs → AllApart (x ∷ xs)
 apart-cons x xs h a = rw h (ap suc a)
+
+-- none stands twice
+pub filter-apart : (p : ℕ → Bool) (n : ℕ) → AllApart (filter p (below n))
+filter-apart p zero = refl
+filter-apart p (suc n) = rw (filter-append p (below n) (n ∷ [])) (elim (either (p n)) [
+  | inl e ↦ rw e (different-push n (filter p (below n)) ∙ rw (fresh _ refl)
+      (ap suc (filter-apart p n) ∙ sym (length-push (filter p (below n)) n)))
+  | inr e ↦ rw (e, append-nil) (filter-apart p n)
+])
+  where
+    fresh : (b : Bool) → holds n (filter p (below n)) ≡ b → holds n (filter p (below n)) ≡ false
+    fresh true h =
+        absurd (omega (arith, holds-below-lt n n (holds-unfilter p n (below n) h)))
+    fresh false h = h
+
+-- a total over all is that over those that fail and the sum of those that pass
+pub split-live : (p : ℕ → Bool) (f : ℕ → ℕ) (n : ℕ) →
+    total n f ≡ total n (λ s. cond (p s) 0 (f s)) + sum_of f (filter p (below n))
+split-live p f zero = refl
+split-live p f (suc n) =
+    let sum = sum_of-append f (filter p (below n)) (filter p (n ∷ [])) in
+    rw (filter-append p (below n) (n ∷ [])) (elim (either (p n)) [
+      | inl e ↦ rw e (omega (arith, split-live p f n, rw e at sum))
+      | inr e ↦ rw e (omega (arith, split-live p f n, rw e at sum))
+    ])
 
 -- A number may be brought to the front.
 
@@ -119,3 +161,58 @@ module _ {X : Type 0} (same : X → X → Bool) (same-refl : (x : X) → same x 
               sum_of-append f front (c ∷ back),
             ));
       }
+
+-- The mate of a number g of xs, where zs are mates for xs in their order.
+
+abbrev pub look : List ℕ → List ℕ → ℕ → ℕ
+look [] zs g = 0
+look (x ∷ xs) [] g = 0
+look (x ∷ xs) (z ∷ zs) g = cond (eqb g x) z (look xs zs g)
+
+module _ {X : Type 0} (kx ky : ℕ → X) where
+  -- it has the same key
+  pub look-key : (xs zs : List ℕ) (g : ℕ) → map kx xs ≡ map ky zs → holds g xs ≡ true →
+      kx g ≡ ky (look xs zs g)
+  look-key [] zs g e h = absurd (grind arith)
+  look-key (x ∷ xs) [] g e h = absurd (cc)
+  look-key (x ∷ xs) (z ∷ zs) g e h =
+      let head : kx x ≡ ky z = cc in
+      let tail : map kx xs ≡ map ky zs = cc in
+      elim (either (eqb g x)) [
+        | inl i ↦ rw (i, eqb-true g x i) head
+        | inr i ↦ rw i (look-key xs zs g tail (rw i at h))
+      ]
+
+  -- it is one of the mates
+  pub look-in : (xs zs : List ℕ) (g : ℕ) → map kx xs ≡ map ky zs → holds g xs ≡ true →
+      holds (look xs zs g) zs ≡ true
+  look-in [] zs g e h = absurd (grind arith)
+  look-in (x ∷ xs) [] g e h = absurd (cc)
+  look-in (x ∷ xs) (z ∷ zs) g e h =
+      let tail : map kx xs ≡ map ky zs = cc in
+      elim (either (eqb g x)) [
+        | inl i ↦ rw i (or-left (eqb z z) _ (eq-eqb z z refl))
+        | inr i ↦ (let later : look (x ∷ xs) (z ∷ zs) g ≡ look xs zs g = rw i refl in
+            subst (λ mate. holds mate (z ∷ zs) ≡ true) (sym later)
+            (or-right (eqb (look xs zs g) z) _ (look-in xs zs g tail (rw i at h))))
+      ]
+
+  -- different numbers have different mates, where no mate stands twice
+  pub look-apart : (xs zs : List ℕ) (g t : ℕ) → map kx xs ≡ map ky zs → AllApart zs →
+      holds g xs ≡ true → holds t xs ≡ true → g ≢ t → look xs zs g ≢ look xs zs t
+  look-apart [] zs g t e a h k n = absurd (grind arith)
+  look-apart (x ∷ xs) [] g t e a h k n = absurd (cc)
+  look-apart (x ∷ xs) (z ∷ zs) g t e a h k n =
+      let tail : map kx xs ≡ map ky zs = cc in
+      let once = apart-head z zs a in
+      elim (either (eqb g x)) [
+        | inl i ↦ (let o : eqb t x ≡ false = ne_eqb t x (λ q. n (eqb-true g x i ∙ sym q)) in
+            rw (i, o) (λ q. clash (rw (← q) at (look-in xs zs t tail (rw o at k))) once.0))
+        | inr i ↦ elim (either (eqb t x)) [
+          | inl j ↦ rw (i, j) (λ q. clash (rw q at (look-in xs zs g tail (rw i at h))) once.0)
+          | inr j ↦ rw (i, j) (look-apart xs zs g t tail once.1 (rw i at h) (rw j at k) n)
+        ]
+      ]
+    where
+      clash : holds z zs ≡ true → holds z zs ≡ false → ⊥
+      clash p q = grind arith

@@ -4,6 +4,7 @@ use Rattle.std.proofs.Common.{ℕ, zero, suc, ◌+◌, ◌<◌, ◌≡◌, ◌�
 use Rattle.std.proofs.Common.{not, ◌&&◌, List, [], ◌∷◌, ◌++◌, map, length, get_or, eqb, eqb-true}
 use Rattle.std.proofs.Common.{eq-eqb, refl, sym, ap, ap₂, ◌∙◌, subst, arith, inl, inr, All}
 use Rattle.std.proofs.Common.{Ordering, Less, Equal, Greater}
+use Rattle.std.specs.Cmp.Lexicographic.{slice_cmp}
 use Rattle.std.specs.Ordering.{nat_cmp, ordering_then, ordering_reverse, is_lt}
 use Rattle.std.specs.Cmp.{IsTotalOrder}
 use Rattle.std.specs.List.{list_all}
@@ -25,8 +26,8 @@ use Rattle.log_checker.specs.Groups.{Seen, nothing_seen}
 use Rattle.log_checker.specs.Live.{marks, same_seen, picked, each_as_often, same_live_seen}
 use Rattle.log_checker.specs.Keys.{key_order, key_in, group_in, comes_in, IsKey, AreSorted}
 use Rattle.log_checker.specs.Keys.{same_key, same_keys}
-use Rattle.log_checker.specs.declared.key.Key.{Key}
-use Rattle.log_checker.specs.declared.key.LiveGroup.{LiveGroup}
+use Rattle.least_slacks.specs.declared.key.Key.{Key}
+use Rattle.log_checker.specs.declared.keys.LiveGroup.{LiveGroup}
 use Rattle.log_checker.proofs.ComingLemmas.{coming-same, same-coming}
 use Rattle.log_checker.proofs.LiveLemmas.{both-ways}
 use Rattle.log_checker.proofs.Sorted.{InOrder, in-order-from, ordered-same, times-moved}
@@ -135,16 +136,16 @@ then-equal Greater b e = absurd (never (ap flip e))
 
 order-total : IsTotalOrder key_order
 order-total =
-    then_total (on_total (λ k. k.load) nat_cmp_total) (then_total (on_total (λ k. k.colours)
-    nat_cmp_total) (on_total (λ k. k.coming) nat_list_cmp_total))
+    then_total (on_total (λ k. k.coming) nat_list_cmp_total) (then_total (on_total (λ k. k.colours)
+    nat_cmp_total) (on_total (λ k. k.load) nat_cmp_total))
 
 order-exact : (a b : Key) → key_order a b ≡ Equal → a ≡ b
 order-exact a b e =
-    let s = then-equal (nat_cmp a.load b.load) _ e in
+    let s = then-equal (slice_cmp nat_cmp a.coming b.coming) _ e in
     let t = then-equal (nat_cmp a.colours b.colours) _ s.1 in
-    let l : a.load ≡ b.load = exact_unsigned a.load b.load s.0 in
+    let l : a.load ≡ b.load = exact_unsigned a.load b.load t.1 in
     let c : a.colours ≡ b.colours = exact_unsigned a.colours b.colours t.0 in
-    let m : a.coming ≡ b.coming = exact_bytes a.coming b.coming t.1 in
+    let m : a.coming ≡ b.coming = exact_bytes a.coming b.coming s.0 in
     λ i. record { load = l i; colours = c i; coming = m i }
 
 abbrev key_less : Key → Key → Bool

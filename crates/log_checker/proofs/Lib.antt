@@ -1,11 +1,5 @@
 pub mod GroupLemmas
-pub mod Numbers
-pub mod TableSteps
-pub mod ItemLemmas
-pub mod LayerLemmas
-pub mod StockLemmas
 pub mod KeyLemmas
-pub mod KnapsackLemmas
 pub mod EndLemmas
 pub mod Sorted
 pub mod ComingLemmas

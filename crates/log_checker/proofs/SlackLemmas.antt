@@ -4,42 +4,39 @@
 use Rattle.std.proofs.Common.{ℕ, zero, suc, ◌+◌, ◌*◌, ◌<◌, ◌≤◌, ◌≡◌, ◌⊎◌, Bool, true, false, List}
 use Rattle.std.proofs.Common.{[], ◌∷◌, map, drop, length, get_or, set, eqb, eq-eqb, eqb-true, refl}
 use Rattle.std.proofs.Common.{sym, ap, ◌∙◌, subst, arith, inl, inr, All, ℤ, pos, slice_index, ◌+ℤ◌}
-use Rattle.std.proofs.Common.{◌-◌, ◌++◌, take, ◌&&◌, ltb, ltb-true}
+use Rattle.std.proofs.Common.{◌-◌, ◌++◌, take, ◌&&◌, ◌||◌, ltb, lt-ltb, cond, zero-add, ap₂}
 use Rattle.std.proofs.lemmas.Bool.Decides.{nat_tests}
 use Rattle.std.proofs.lemmas.Int.{ints}
 use Rattle.std.proofs.lemmas.List.{take_all, drop_all, drop_more, get_or-set_same, get_or-set_other}
-use Rattle.std.proofs.lemmas.List.{get_or_default}
+use Rattle.std.proofs.lemmas.List.{get_or_default, length-map}
 use Rattle.std.proofs.lemmas.List.Sorted.{All-permutation, IsPermutation-map}
 use Rattle.mill_model.specs.Instance.{IsOrder}
 use Rattle.mill_model.specs.Plan.{slab}
 use Rattle.mill_model.specs.Prices.{least_slack}
-use Rattle.list_laws.specs.Sets.{below, times, int_sum, int_total}
+use Rattle.list_laws.specs.Sets.{holds, different, below, times, int_sum, int_total}
 use Rattle.mill_model.specs.Slab.{Mill}
-use Rattle.mill_model.specs.LiveKey.{is_live, seen_from}
+use Rattle.mill_model.specs.LiveKey.{is_live, has_colour}
 use Rattle.mill_model.specs.declared.order.Order.{Order}
-use Rattle.list_laws.proofs.Tests.{either, and-left, and-right}
+use Rattle.list_laws.proofs.Tests.{either, or-left, or-right}
 use Rattle.list_laws.proofs.Among.{Among, Among-filter, Among-unfilter, among-below, below-lt}
 use Rattle.list_laws.proofs.Times.{times-pos, times-among}
-use Rattle.mill_laws.proofs.Mated.{same_group-eq}
-use Rattle.set_minima.proofs.Groups.{same-least, dead-least}
+use Rattle.set_minima.specs.Packs.{nobody, colour_at}
+use Rattle.set_minima.specs.Joins.{IsSlab}
+use Rattle.set_minima.proofs.Groups.{dead-least}
+use Rattle.least_slacks.specs.Cells.{IsSmall}
+use Rattle.least_slacks.specs.Keys.{AreLeast, HasColours, no_key}
+use Rattle.least_slacks.specs.Limits.{mill_within}
+use Rattle.least_slacks.specs.declared.limits.SlabLimits.{SlabLimits}
 use Rattle.log_checker.specs.Groups.{Seen, IsSeen, AreGroups, nothing_seen}
 use Rattle.log_checker.specs.Live.{lives, live_of}
-use Rattle.log_checker.specs.Keys.{IsKey, AreSorted, group_in, same_key}
+use Rattle.log_checker.specs.Keys.{IsKey, AreSorted, group_in, key_in}
 use Rattle.log_checker.specs.Slacks.{slack_of, no_live}
-use Rattle.log_checker.specs.declared.key.Key.{Key}
-use Rattle.log_checker.specs.declared.key.LiveGroup.{LiveGroup}
-use Rattle.log_checker.proofs.KeyLemmas.{key-same, low-from}
-use Rattle.log_checker.proofs.LiveLemmas.{lives-is, same-is}
+use Rattle.least_slacks.specs.declared.key.Key.{Key}
+use Rattle.log_checker.specs.declared.keys.LiveGroup.{LiveGroup}
+use Rattle.log_checker.proofs.KeyLemmas.{low-from}
+use Rattle.log_checker.proofs.PriceLemmas.{live-fits, seen-once}
+use Rattle.log_checker.proofs.LiveLemmas.{lives-is}
 use Rattle.log_checker.proofs.Sorted.{times-moved}
-
--- equal keys have equal slacks
-pub key-slack : (mill : Mill) (charge : ℕ → ℕ) (rest : List Order) (prices : List ℤ) (a b : Seen)
-    (g h : List Order) (x y : Key) → All (λ o. o.colour < 65535) rest → IsSeen a g → IsSeen b h →
-    IsKey rest a x → IsKey rest b y → same_key x y ≡ true →
-    least_slack mill charge g rest prices ≡ least_slack mill charge h rest prices
-key-slack mill charge rest prices a b g h x y low s t k l e =
-    same-least mill charge rest g h (same_group-eq (seen_from rest g) (seen_from rest h)
-    (sym (same-is rest a b g h s t) ∙ key-same rest a b x y low k l ∙ e)) prices
 
 -- the groups of the live ones in order
 among-sorted : (mill : Mill) (rest : List Order) (groups : List Seen) (sorted : List LiveGroup)
@@ -59,7 +56,7 @@ map-at (l ∷ live) zero h = inl refl
 map-at (l ∷ live) (suc i) h = inr (map-at live i (omega arith))
 
 -- each of the live groups in order is a live group
-sorted-lives : (mill : Mill) (rest : List Order) (groups : List Seen)
+pub sorted-lives : (mill : Mill) (rest : List Order) (groups : List Seen)
     (sorted : List LiveGroup) (i : ℕ) → AreSorted mill rest groups sorted → i < length sorted →
     ((get_or sorted i no_live).group < length groups)
     × (lives mill rest (get_or groups (get_or sorted i no_live).group nothing_seen) ≡ true)
@@ -99,28 +96,105 @@ sorted-keys mill rest groups sorted i it h =
     All-permutation (λ l. IsKey rest (get_or groups l.group nothing_seen) l.key) it.plain sorted
     it.moved it.live.keys i no_live h
 
--- a group like the last one has its slack
-pub like-slack : (mill : Mill) (charges : List ℕ) (ranked : List Order) (path : List ℕ)
-    (prices : List ℤ) (groups : List Seen) (sorted : List LiveGroup) (i : ℕ) (last : ℤ) →
-    All IsOrder ranked → AreGroups groups path ranked →
-    AreSorted mill (drop (length path) ranked) groups sorted → i < length sorted →
-    ((j : ℕ) → j + 1 ≡ i →
-    last ≡ slack_of mill charges ranked path prices (get_or sorted j no_live).group) →
-    (ltb 0 i && same_key (get_or sorted i no_live).key (get_or sorted (i - 1) no_live).key) ≡ true →
-    last ≡ slack_of mill charges ranked path prices (get_or sorted i no_live).group
-like-slack mill charges ranked path prices groups sorted i last orders it s here slack like =
+-- a colour stands in a list exactly where it stands there at least once
+holds-often : (c : ℕ) (xs : List ℕ) → holds c xs ≡ ltb 0 (times eqb c xs)
+holds-often c [] = refl
+holds-often c (x ∷ xs) = go (eqb c x) (times eqb c xs) (holds-often c xs)
+  where
+    go : (b : Bool) (n : ℕ) → holds c xs ≡ ltb 0 n → (b || holds c xs) ≡ ltb 0 (cond b 1 0 + n)
+    go true n h = sym (lt-ltb 0 (1 + n) (omega arith))
+    go false n h = h ∙ ap (ltb 0) (sym (zero-add n))
+
+-- of the colours that come, a key names those of its group
+pub key-colours : (rest : List Order) (seen : Seen) (key : Key) →
+    All (λ o. o.colour < 65535) rest → IsKey rest seen key →
+    length seen.colours ≡ different seen.colours → HasColours rest key seen.colours
+key-colours rest seen key low is once = record {
+  once = once;
+  count = sym is.counts;
+  same = λ i h.
+      let c = colour_at rest i in
+      let there : has_colour rest c ≡ true = comes rest i h in
+      let e : times eqb c key.coming ≡ cond (holds c seen.colours && has_colour rest c) 1 0 =
+      is.coming.each c (low i nobody h) in
+      let d : times eqb c key.coming ≡ cond (holds c seen.colours) 1 0 =
+      e ∙ ap (λ b. cond b 1 0) (rw there (and-true (holds c seen.colours))) in
+      sym (holds-often c key.coming ∙ ap (ltb 0) d ∙ once-or-never (holds c seen.colours));
+}
+  where
+    and-true : (b : Bool) → (b && true) ≡ b
+    and-true true = refl
+    and-true false = refl
+
+    once-or-never : (b : Bool) → ltb 0 (cond b 1 0) ≡ b
+    once-or-never true = refl
+    once-or-never false = refl
+
+    comes : (rest : List Order) (i : ℕ) → i < length rest →
+        has_colour rest (colour_at rest i) ≡ true
+    comes [] i h = absurd (omega arith)
+    comes (o ∷ rest) zero h = or-left (eqb o.colour o.colour) _ (eq-eqb o.colour o.colour refl)
+    comes (o ∷ rest) (suc i) h =
+        or-right (eqb (colour_at rest i) o.colour) _ (comes rest i (omega arith))
+
+-- the key of a live group among the keys
+pub key-at : (live : List LiveGroup) (i : ℕ) (d : Key) → i < length live →
+    get_or (map key_in live) i d ≡ (get_or live i no_live).key
+key-at [] i d h = absurd (omega arith)
+key-at (l ∷ live) zero d h = refl
+key-at (l ∷ live) (suc i) d h = key-at live i d (omega arith)
+
+-- the keys of live groups are those of legal slabs
+pub keys-legal : (mill : Mill) (rest : List Order) (groups : List Seen) (sorted : List LiveGroup) →
+    AreSorted mill rest groups sorted →
+    All (λ key. (key.load ≤ mill.largest) × (key.colours ≤ mill.most_colours))
+    (map key_in sorted)
+keys-legal mill rest groups sorted s i d h =
+    let n : length (map key_in sorted) ≡ length sorted = length-map sorted key_in in
+    let here : i < length sorted = omega arith in
+    let key = (get_or sorted i no_live).key in
+    let seen = get_or groups (get_or sorted i no_live).group nothing_seen in
+    let l = sorted-lives mill rest groups sorted i s here in
+    let is : IsKey rest seen key = sorted-keys mill rest groups sorted i s here in
+    let f = live-fits mill rest seen l.1 in
+    let e : get_or (map key_in sorted) i d ≡ key = key-at sorted i d here in
+    subst (λ (k : Key). (k.load ≤ mill.largest) × (k.colours ≤ mill.most_colours)) (sym e)
+    (omega (arith, f.0, is.weighs), omega (arith, f.1, is.counts))
+
+-- the least slack for the key of a live group is that of the group
+pub live-slack : (mill : Mill) (limits : SlabLimits) (charges : List ℕ) (ranked : List Order)
+    (path : List ℕ) (prices : List ℤ) (groups : List Seen) (sorted : List LiveGroup)
+    (least : List ℤ) (i : ℕ) → All IsOrder ranked → AreGroups groups path ranked →
+    AreSorted mill (drop (length path) ranked) groups sorted →
+    mill_within limits ≡ mill → limits.charges.now ≡ charges →
+    AreLeast limits (drop (length path) ranked) prices (map key_in sorted) least →
+    i < length sorted →
+    (IsSmall 30000000000000 (get_or least i (pos 0)))
+    × (get_or least i (pos 0)
+    ≡ slack_of mill charges ranked path prices (get_or sorted i no_live).group)
+live-slack mill limits charges ranked path prices groups sorted least i orders it s same charged h
+    here =
     let rest = drop (length path) ranked in
     let g = (get_or sorted i no_live).group in
-    let h = (get_or sorted (i - 1) no_live).group in
-    let some : 0 < i = ltb-true 0 i (and-left (ltb 0 i) _ like) in
-    let e = key-slack mill (λ l. slice_index charges l) rest prices (get_or groups g nothing_seen)
-    (get_or groups h nothing_seen) (slab g path ranked) (slab h path ranked)
-    (get_or sorted i no_live).key (get_or sorted (i - 1) no_live).key
-    (low-from (length path) ranked orders) (it.seen g) (it.seen h)
-    (sorted-keys mill rest groups sorted i s here)
-    (sorted-keys mill rest groups sorted (i - 1) s (omega (arith, some, here)))
-    (and-right (ltb 0 i) _ like) in
-    slack (i - 1) (omega (arith, some)) ∙ sym e
+    let key = (get_or sorted i no_live).key in
+    let seen = get_or groups g nothing_seen in
+    let is : IsKey rest seen key = sorted-keys mill rest groups sorted i s here in
+    let has : HasColours rest key seen.colours =
+    key-colours rest seen key (low-from (length path) ranked orders) is
+    (seen-once seen (slab g path ranked) (it.seen g)) in
+    let n : length (map key_in sorted) ≡ length sorted = length-map sorted key_in in
+    let e : get_or (map key_in sorted) i no_key ≡ key = key-at sorted i no_key here in
+    let has' : HasColours rest (get_or (map key_in sorted) i no_key) seen.colours =
+    subst (λ (k : Key). HasColours rest k seen.colours) (sym e) has in
+    let w : (get_or (map key_in sorted) i no_key).load ≡ seen.load =
+    ap (λ (k : Key). k.load) e ∙ is.weighs in
+    let its : IsSlab (slab g path ranked) (get_or (map key_in sorted) i no_key).load seen.colours =
+    record { weighs = sym (it.seen g).weighs ∙ sym w; same = (it.seen g).has } in
+    let l = h.least i (omega arith) seen.colours (slab g path ranked) has' its in (
+      h.small i (omega arith) seen.colours has',
+      l ∙ ap₂ (λ (m : Mill) (cs : List ℕ). least_slack m (λ k. slice_index cs k)
+          (slab g path ranked) rest prices) same charged,
+    )
 
 -- a group is charged what its load is, or is among the live ones in order
 pub charged-first : (mill : Mill) (charges : List ℕ) (ranked : List Order) (path : List ℕ)

@@ -1,5 +1,5 @@
 -- Classes and last numbers by place.
-use Rattle.std.proofs.Common.{take, drop, max, sym, ap, ◌∙◌, ℕ, zero, suc, ◌+◌, ◌-◌, ◌<◌, ◌≤◌, ◌≡◌}
+use Rattle.std.proofs.Common.{lt-ltb, ltb, take, drop, max, sym, ap, ◌∙◌, ℕ, zero, suc, ◌+◌, ◌-◌, ◌<◌, ◌≤◌, ◌≡◌}
 use Rattle.std.proofs.Common.{true, false, not, List, [], ◌∷◌, ◌++◌, length, get_or, refl, arith}
 use Rattle.std.proofs.Common.{leb, le-leb, ◌&&◌, ◌||◌}
 use Rattle.mill_model.specs.Slab.{Mill, legal}
@@ -44,6 +44,7 @@ pub goes-on-from : (mill : Mill) (groups : List Seen) (ranked : List Order) (pat
     g ≡ (may_be mill (joined (get_or groups g nothing_seen) (get_or ranked (length path) d))
     && (starts_class_in (length path) ranked || leb (last_number path) g))
 goes-on-from mill groups ranked path g d it h n =
+    let s : ltb (length path) (length ranked) ≡ true = lt-ltb (length path) (length ranked) h in
     let a : leb g (next_new path) ≡ true = le-leb g (next_new path) n in
     let b : legal mill (slab g (path ++ g ∷ []) ranked) ≡ may_be mill
     (joined (get_or groups g nothing_seen) (get_or ranked (length path) d)) =
@@ -52,7 +53,7 @@ goes-on-from mill groups ranked path g d it h n =
     (slab g path ranked ++ get_or ranked (length path) d ∷ [])
     (seen-push (get_or groups g nothing_seen) (slab g path ranked)
     (get_or ranked (length path) d) it)) in
-    rw (a, b) refl
+    rw (s, a, b) refl
 
 pub take-push : (k : ℕ) (path : List ℕ) → k < length path → take (k + 1) path ≡ take k path
     ++ get_or path k 0 ∷ []

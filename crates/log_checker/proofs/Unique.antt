@@ -143,7 +143,7 @@ module _ (task : Task) (bound : ℕ) (log : List Entry) where
       absurd (not-missing-unsound q p b a)
   verdict-unique (verdicts.Unsound p) (verdicts.Stray q) a b = absurd (not-stray-unsound q p b a)
 
--- a verdict on what a judge judges by is one on the instance, and the one that holds
+-- a verdict on what a rules judges by is one on the instance, and the one that holds
 module _ (own task : Task) (bound : ℕ) (read log : List Entry) (same : own ≡ task)
     (all : read ≡ log) (v : LogVerdict) (is : IsVerdict own bound read v) where
   verdict-moved : IsVerdict task bound log v

@@ -11,14 +11,14 @@ use Rattle.mill_model.specs.LiveKey.{has_colour}
 use Rattle.mill_model.specs.declared.order.Order.{Order}
 use Rattle.log_checker.specs.Groups.{Seen, nothing_seen}
 use Rattle.log_checker.specs.Live.{live_of}
-use Rattle.log_checker.specs.declared.key.Key.{Key}
-use Rattle.log_checker.specs.declared.key.LiveGroup.{LiveGroup}
+use Rattle.least_slacks.specs.declared.key.Key.{Key}
+use Rattle.log_checker.specs.declared.keys.LiveGroup.{LiveGroup}
 
--- keys by load, then number of colours, then the coming colours
+-- keys by the coming colours, then number of colours, then load
 abbrev pub key_order : Key → Key → Ordering
 key_order a b =
-    ordering_then (nat_cmp a.load b.load)
-    (ordering_then (nat_cmp a.colours b.colours) (slice_cmp nat_cmp a.coming b.coming))
+    ordering_then (slice_cmp nat_cmp a.coming b.coming)
+    (ordering_then (nat_cmp a.colours b.colours) (nat_cmp a.load b.load))
 
 abbrev pub key_in : LiveGroup → Key
 key_in live = live.key

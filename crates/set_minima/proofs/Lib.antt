@@ -7,3 +7,4 @@ pub mod Fits
 pub mod Least
 pub mod Holding
 pub mod Groups
+pub mod LeftOut

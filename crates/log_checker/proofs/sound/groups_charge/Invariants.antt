@@ -6,7 +6,7 @@ use Rattle.log_checker.proofs.sound.groups_charge.Given as goal
 abbrev pub invariant-loop-g : goal.invariant-loop-g
 invariant-loop-g l =
     record {
-      is : l.sum ≡ total l.g (λ g. slice_index l.judge.charges.items
+      is : l.sum ≡ total l.g (λ g. slice_index l.rules.charges.items
           (slice_index_or l.groups g nothing_seen).load);
       small : l.sum ≤ l.g * 100000000;
     }

@@ -1,0 +1,6 @@
+pub mod CellNumbers
+pub mod OneCell
+pub mod ItemsLetIn
+pub mod LayersRaised
+pub mod OrdersByColour
+pub mod LeastFromTable

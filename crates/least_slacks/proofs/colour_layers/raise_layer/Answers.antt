@@ -1,0 +1,9 @@
+use Rattle.std.proofs.Common.{◌+◌, get_or, pos, arith}
+use Rattle.least_slacks.proofs.CellNumbers.{near-wider}
+use Rattle.least_slacks.proofs.colour_layers.raise_layer.Goals as goal
+
+pub returns-then-run-clause-near : goal.returns-then-run-clause-near
+returns-then-run-clause-near c n h l =
+    near-wider (n + 20000000000) (n + 20480000000000)
+    (get_or c.raise_by_order.new.tables l (pos 0)) (omega arith)
+    (c.raise_by_order.ensures.near n h l)

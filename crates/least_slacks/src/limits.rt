@@ -1,0 +1,13 @@
+ghost use Rattle.std.specs.Prelude.{◌≡◌, ◌+◌, ◌≤◌, All, length};
+
+/// What a slab may hold, and what each load is charged.
+#[derive(Drop)]
+pub struct SlabLimits<'a> {
+    pub largest: usize,
+    pub most: usize,
+    pub charges: &'a [u64],
+    pub ghost size: { largest ≤ 20000 },
+    pub ghost few: { most ≤ 8 },
+    pub ghost reach: { length charges.now ≡ largest + 1 },
+    pub ghost small: { All (λ charge. charge ≤ 100000000) charges.now },
+}

@@ -8,7 +8,7 @@ use Rattle.std.proofs.lemmas.Bool.{cases_order}
 use Rattle.std.proofs.lemmas.List.{get_or-drop, take_all}
 use Rattle.line_text.specs.Lines.{is_white}
 use Rattle.instance_text.specs.Words.{IsBlankFrom, IsFirstNotBlank}
-use Rattle.slab_top.specs.Answer.{after_white}
+use Rattle.slab_top.specs.Input.{after_white}
 
 -- a rest that is blank has no first byte that isn't
 pub rest-is-blank : (text : List ℕ) (end at : ℕ) → IsFirstNotBlank text end at →

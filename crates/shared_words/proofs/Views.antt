@@ -143,8 +143,11 @@ module _ {V : Type 0} (f : V → ℕ) where
       sum_by f (set (set views place both) other spent) + f v + f w
       ≡ sum_by f views + f both + f spent
   sum_join views place other v w both spent here there =
-      omega (arith, sum_set views place v both here,
-          sum_set (set views place both) other w spent there)
+      omega (
+        arith,
+        sum_set views place v both here,
+        sum_set (set views place both) other w spent there,
+      )
 
   one_of : (views : List V) (place : ℕ) (v : V) → get_elem? views place ≡ some v →
       f v ≤ sum_by f views

@@ -1,4 +1,0 @@
-pub mod Finds
-pub mod Choices
-pub mod Losses
-pub mod Wholes

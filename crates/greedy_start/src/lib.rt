@@ -1,8 +1,0 @@
-//! Greedy starts: the first-fit plan of an instance, and the better of its first-fit and its
-//! best-fit plan, each order going to a slab in rank.
-#![tactic(auto)]
-
-mod open_path;
-mod start;
-
-pub use start::{best_start, first_fit};

@@ -1,4 +1,0 @@
-pub mod LinkedLists
-pub mod Relinked
-pub mod Moved
-pub mod Views

@@ -3,7 +3,6 @@ use Rattle.std.proofs.Common.{◌≡◌, ◌≢◌, ℕ, Bool, true, false, cond
 use Rattle.std.proofs.Common.{eqb-true, eq-eqb}
 use Rattle.mill_model.specs.Instance.{Problem, mill_of, loss_charge}
 use Rattle.plan_check.specs.Verdicts.{IsHeavy, IsColourful}
-use Rattle.mill_model.specs.Plan.{IsPlanWithLoss}
 use Rattle.plan_check.specs.declared.verdict.Verdict.{Verdict}
 use Rattle.plan_check.specs.declared.verdict.Verdict.TheVariants as verdict
 use Rattle.plan_check.proofs.Judged.{IsJudged, legal-judged, heavy-judged, colourful-judged}

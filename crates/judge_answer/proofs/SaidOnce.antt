@@ -5,7 +5,6 @@ use Rattle.std.proofs.Common.{refl, sym, ap, ◌∙◌, ◌⊎◌, subst, inl, i
 use Rattle.std.specs.Prelude.{Option, Some, None}
 use Rattle.mill_model.specs.Instance.{Problem}
 use Rattle.mill_model.specs.declared.closing.Entry.{Entry}
-use Rattle.plan_check.specs.declared.verdict.Verdict.{Verdict}
 use Rattle.plan_check.specs.declared.verdict.Verdict.TheVariants as verdict
 use Rattle.log_checker.specs.Verdict.{IsVerdict}
 use Rattle.log_checker.specs.declared.verdict.LogVerdict.{LogVerdict}
@@ -16,13 +15,12 @@ use Rattle.answer_text.specs.declared.answer.Answer.TheVariants.{Optimal, Feasib
 use Rattle.reply_text.specs.declared.judgement.Judgement.{Judgement}
 use Rattle.reply_text.specs.declared.judgement.Judgement.TheVariants.{Confirmed, OrderDiffers}
 use Rattle.reply_text.specs.declared.judgement.Judgement.TheVariants.{Legal, Verified, Missing}
-use Rattle.reply_text.specs.declared.judgement.Judgement.TheVariants.{Stray, Unsound, Heavy}
-use Rattle.reply_text.specs.declared.judgement.Judgement.TheVariants.{Colourful, LossDiffers}
+use Rattle.reply_text.specs.declared.judgement.Judgement.TheVariants.{Stray, Unsound}
 use Rattle.mill_model.specs.Heavy.{IsFirstHeavyIfAny}
 use Rattle.instance_facts.proofs.HeavyOnce.{any-once}
 use Rattle.judge_answer.specs.Check.{IsSaidOfPlan, IsSaidOfOrder, IsSaidOf}
 use Rattle.judge_answer.specs.Verify.{loss_task, IsSaidOfProof, IsVerdictOn, ProvesNothing}
-use Rattle.judge_answer.proofs.PlanSaid.{IsRight, said_by, verdict-once, plan-known, plan-once}
+use Rattle.judge_answer.proofs.PlanSaid.{IsRight, plan-once}
 
 -- ---- an order
 

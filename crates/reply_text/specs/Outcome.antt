@@ -5,7 +5,6 @@ use Rattle.answer_text.specs.declared.answer.Answer.TheVariants.{Optimal, Feasib
 use Rattle.answer_text.specs.Text.{answer_text, most_orders, Fits}
 use Rattle.reply_text.specs.declared.status.TheConstants.{OPTIMAL, INFEASIBLE, FEASIBLE, REFUSED}
 use Rattle.reply_text.specs.declared.status.TheConstants.{ACCEPTED, REJECTED}
-use Rattle.reply_text.specs.declared.judgement.Judgement.{Judgement}
 use Rattle.reply_text.specs.declared.outcome.Outcome.{Outcome}
 use Rattle.reply_text.specs.declared.outcome.Outcome.TheVariants.{Refused, Solved, Judged}
 use Rattle.reply_text.specs.Refusal.{words_of_refusal}

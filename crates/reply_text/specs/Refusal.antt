@@ -1,5 +1,5 @@
 -- What is written of a refusal.
-use Rattle.std.specs.Prelude.{ℕ, List, [], ◌∷◌, ◌++◌, codes, decimal}
+use Rattle.std.specs.Prelude.{ℕ, List, ◌++◌, codes, decimal}
 use Rattle.instance_text.specs.Fields.{name_of}
 use Rattle.instance_text.specs.declared.error.InstanceError.{InstanceError}
 use Rattle.instance_text.specs.declared.error.InstanceError.TheVariants as instance

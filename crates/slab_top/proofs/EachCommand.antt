@@ -31,7 +31,7 @@ use Rattle.slab_top.specs.Check.{Checks}
 use Rattle.slab_top.specs.Verify.{Verifies}
 use Rattle.slab_top.specs.Agree.{AgreeOnOutcomes}
 use Rattle.slab_top.proofs.Stages.{alone-decided, with-answer-decided, with-proof-decided}
-use Rattle.slab_top.proofs.Replying.{same-agree, tells-agree, replies-agree, replies-otherwise}
+use Rattle.slab_top.proofs.Replying.{tells-agree, replies-agree, replies-otherwise}
 
 pub record IsCommand (Serves : Job → List ℕ → Outcome → Type 0) : Type 0 where
   pub agree : (job : Job) (bytes : List ℕ) (a b : Outcome) → Serves job bytes a →

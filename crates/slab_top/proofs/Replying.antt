@@ -1,7 +1,7 @@
 -- What a command answers agrees with all else that is right for the same input, if its stages are
 -- decided and what it says of a value agrees.
 use Rattle.std.proofs.Common.{◌≡◌, ◌≢◌, ℕ, Bool, true, false, cond, refl, sym, ap, ◌∙◌, subst}
-use Rattle.std.proofs.Common.{◌⊎◌, inl, inr, arith}
+use Rattle.std.proofs.Common.{inl, inr, arith}
 use Rattle.answer_text.specs.declared.answer.Answer.{Answer}
 use Rattle.answer_text.specs.declared.answer.Answer.TheVariants.{Optimal, Feasible, Infeasible}
 use Rattle.reply_text.specs.declared.outcome.Outcome.{Outcome}
@@ -14,7 +14,7 @@ use Rattle.reply_text.specs.Outcome as told
 use Rattle.solve_answer.specs.Solved.{AgreeOnAnswers}
 use Rattle.slab_top.specs.Stage.{Stage, IsDecided}
 use Rattle.slab_top.specs.Reply.{Replies, Tells}
-use Rattle.slab_top.specs.Served.{Output, WrongWords, Answered, status_of}
+use Rattle.slab_top.specs.Served.{Output, Answered, status_of}
 use Rattle.slab_top.specs.Agree.{AgreeOnOutcomes, Agree, MayEndWith}
 use Rattle.slab_top.specs.Run.{IsStatus, IsOwnStatus}
 

@@ -1,8 +1,8 @@
 -- Each stage of a command is decided, and so are stages one after the other. What a reader shows
 -- of its text is all that is wanted of its stage.
 use Rattle.std.specs.Prelude.{Result, Ok, Err}
-use Rattle.std.proofs.Common.{◌≡◌, ◌≢◌, ℕ, ◌+◌, ◌^◌, ◌<◌, ◌≤◌, List, length, sym, ap, ap₂, ◌∙◌}
-use Rattle.std.proofs.Common.{subst, ◌⊎◌, inl, inr, arith}
+use Rattle.std.proofs.Common.{◌≡◌, ◌≢◌, ℕ, ◌^◌, ◌<◌, List, length, sym, ap, ap₂, ◌∙◌}
+use Rattle.std.proofs.Common.{subst, inl, inr, arith}
 use Rattle.mill_model.specs.Instance.{Problem}
 use Rattle.instance_text.proofs.Exact.{begins_once, begins_right, refused_once}
 use Rattle.answer_text.specs.declared.answer.Answer.{Answer as SomeAnswer}

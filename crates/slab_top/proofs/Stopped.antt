@@ -1,7 +1,6 @@
 -- What stops the reading of an answer is a refusal of its lines, or want of memory.
 use Rattle.std.specs.Prelude.{Err}
 use Rattle.std.proofs.Common.{◌≡◌, ℕ, List, length, refl, inr}
-use Rattle.mill_model.specs.Instance.{Problem}
 use Rattle.instance_text.specs.Text.{Begins}
 use Rattle.answer_text.specs.declared.error.AnswerTextError.{AnswerTextError}
 use Rattle.answer_text.specs.declared.error.AnswerTextError.TheVariants as error

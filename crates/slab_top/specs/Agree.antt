@@ -5,7 +5,7 @@ use Rattle.reply_text.specs.declared.outcome.Outcome.{Outcome}
 use Rattle.reply_text.specs.declared.outcome.Outcome.TheVariants.{Solved}
 use Rattle.reply_text.specs.declared.status.TheConstants.{OPTIMAL, FEASIBLE}
 use Rattle.solve_answer.specs.Solved.{AgreeOnAnswers}
-use Rattle.slab_top.specs.Served.{Output, WrongWords, Answered, status_of}
+use Rattle.slab_top.specs.Served.{Output, Answered, status_of}
 
 -- two outcomes are one, but for answers that agree
 abbrev pub AgreeOnOutcomes : Outcome → Outcome → Type 0

@@ -1,6 +1,6 @@
 -- The plan that gives each order a slab of its own loses what the orders lose alone.
-use Rattle.std.proofs.Common.{◌≡◌, ℕ, zero, suc, ◌+◌, ◌<◌, ◌≤◌, List, [], ◌∷◌, ◌++◌, length, take}
-use Rattle.std.proofs.Common.{drop, get_or, refl, ap, ap₂, ◌∙◌, arith, drop-cons, append-nil}
+use Rattle.std.proofs.Common.{◌≡◌, ℕ, zero, suc, ◌<◌, ◌≤◌, List, [], ◌∷◌, length, take}
+use Rattle.std.proofs.Common.{drop, get_or, refl, ap, ◌∙◌, arith, drop-cons, append-nil}
 use Rattle.std.proofs.Common.{ne_eqb, eq-eqb}
 use Rattle.std.specs.Prelude.{sum_by}
 use Rattle.std.proofs.Math.Seq.{take-suc}

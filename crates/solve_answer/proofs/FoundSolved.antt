@@ -1,8 +1,8 @@
 -- What a search of the tree has found is what is answered. A search goes by a table of charges; as
 -- the table is the charge of the definition, all is said here of that charge.
-use Rattle.std.proofs.Common.{◌≡◌, ℕ, ◌<◌, ◌≤◌, List, [], ◌∷◌, length, refl, sym, ap, ◌∙◌, subst}
+use Rattle.std.proofs.Common.{◌≡◌, ℕ, ◌<◌, ◌≤◌, List, [], ◌∷◌, length, refl, sym, ◌∙◌}
 use Rattle.std.proofs.Common.{arith}
-use Rattle.std.specs.Prelude.{Option, Some, None, IfSome}
+use Rattle.std.specs.Prelude.{Option, IfSome}
 use Rattle.std.proofs.lemmas.Option.{slice_get_within}
 use Rattle.list_laws.specs.Sets.{below}
 use Rattle.mill_model.specs.Instance.{Problem, IsInstance, largest, mill_of, loss_charge}
@@ -22,7 +22,7 @@ use Rattle.answer_text.specs.declared.answer.Answer.TheVariants.{Infeasible}
 use Rattle.answer_text.proofs.Printed.{may-print, read-back}
 use Rattle.mill_model.specs.Heavy.{NoneHeavy, IsFirstHeavy}
 use Rattle.solve_answer.specs.Search.{answer_from}
-use Rattle.solve_answer.specs.Solved.{IsSolution, IsTold, WhereOptimal, IsRefutation, HasRefutation}
+use Rattle.solve_answer.specs.Solved.{IsSolution, IsTold, WhereOptimal}
 use Rattle.solve_answer.proofs.AloneLoses.{alone-loses}
 use Rattle.solve_answer.proofs.LossLimit.{optimal-fits, feasible-fits}
 

@@ -1,10 +1,8 @@
 -- Right answers to a problem agree: it has a heavy order, or none; and a best plan loses no more than
 -- any other.
-use Rattle.std.proofs.Common.{◌≡◌, ℕ, ◌≤◌, List, sym, ap, ◌∙◌, subst, arith}
-use Rattle.std.specs.Prelude.{length}
+use Rattle.std.proofs.Common.{ℕ, ◌≤◌, List, sym, ap, ◌∙◌, subst, arith}
 use Rattle.mill_model.specs.Best.{IsTidyPlan, IsBest}
 use Rattle.mill_model.specs.Instance.{Problem, mill_of, loss_charge}
-use Rattle.mill_model.specs.Size.{enough}
 use Rattle.answer_text.specs.declared.answer.Answer.{Answer}
 use Rattle.answer_text.specs.declared.answer.Answer.TheVariants.{Optimal, Feasible, Infeasible}
 use Rattle.instance_facts.proofs.HeavyOnce.{heavy-once, heavy-or-none}

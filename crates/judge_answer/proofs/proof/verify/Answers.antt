@@ -1,7 +1,5 @@
-use Rattle.std.proofs.Common.{◌∙◌, ap, length, subst}
-use Rattle.std.specs.Prelude.{Some}
+use Rattle.std.proofs.Common.{length, subst}
 use Rattle.answer_text.specs.Text.{Fits}
-use Rattle.answer_text.specs.declared.answer.Answer.TheVariants.{Optimal}
 use Rattle.judge_answer.proofs.Numbered.{numbers-from}
 use Rattle.judge_answer.proofs.proof.verify.Goals as goal
 

@@ -1,4 +1,4 @@
-use Rattle.std.specs.Prelude.{Err, Ok}
+use Rattle.std.specs.Prelude.{Err}
 use Rattle.std.proofs.Common.{◌≡◌, length, refl, ap, sym, subst, rules}
 use Rattle.line_text.specs.Lines.{text_lines}
 use Rattle.answer_text.specs.Text.{IsAnswerText}

@@ -1,8 +1,7 @@
-use Rattle.std.proofs.Common.{◌≡◌, ◌∙◌, refl, sym, subst}
+use Rattle.std.proofs.Common.{◌∙◌, refl, sym, subst}
 use Rattle.std.specs.Io.KnownBytes.{Appends}
 use Rattle.mill_io.specs.Bytes.{AppendsFront}
-use Rattle.job_words.specs.declared.job.Job.{Job}
-use Rattle.job_words.specs.Words.{texts, AskFor}
+use Rattle.job_words.specs.Words.{texts}
 use Rattle.slab_top.specs.Served.{WrongWords, Answered}
 use Rattle.slab_top.specs.Agree.{MayEndWith}
 use Rattle.slab_top.specs.Run.{IsOwnStatus}

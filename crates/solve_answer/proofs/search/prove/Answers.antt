@@ -1,6 +1,5 @@
-use Rattle.std.proofs.Common.{◌≡◌, length, vec_len, rules, arith, refl, sym, subst}
+use Rattle.std.proofs.Common.{◌≡◌, length, vec_len, rules, arith, sym, subst}
 use Rattle.std.specs.Prelude.{Some}
-use Rattle.mill_model.specs.Instance.{mill_of}
 use Rattle.mill_model.specs.Log.{Refutes, task_of}
 use Rattle.mill_model.specs.Charges.{charge_of}
 use Rattle.instance_facts.proofs.Charged.{table-is-charge}

@@ -1,4 +1,4 @@
--- Prices of a record: live groups are legal, and what is known of them serves the knapsack.
+-- What is seen of the groups of a path: each colour once, and a live group is legal.
 use Rattle.std.proofs.Common.{ℕ, suc, ◌+◌, ◌<◌, ◌≤◌, ◌≡◌, Bool, true, false, List, [], ◌∷◌, ◌++◌}
 use Rattle.std.proofs.Common.{length, map, leb, leb-true, refl, sym, ◌∙◌, arith, inl, inr, cond}
 use Rattle.std.proofs.Common.{length-append, get_or, subst, ℤ, ◌+ℤ◌}
@@ -25,10 +25,6 @@ seen-once seen orders is =
     let c : length seen.colours ≡ different (map (λ o. o.colour) orders) = is.counts in
     omega arith
 
-pub seen-slab : (seen : Seen) (orders : List Order) → IsSeen seen orders →
-    IsSlab orders seen.load seen.colours
-seen-slab seen orders is = record { weighs = sym is.weighs; same = is.has }
-
 -- a live group fits a slab
 colours-with : (c : ℕ) (colours : List ℕ) → length colours ≤ length (with_colour c colours)
 colours-with c colours = go (holds c colours)
@@ -51,15 +47,6 @@ live-fits mill (o ∷ rest) seen h =
           (omega arith, omega arith))
       | inr a ↦ live-fits mill rest seen a
     ]
-
--- an element of the groups of a path
-pub group-at : (groups : List Seen) (path : List ℕ) (ranked : List Order) (g : ℕ) (seen : Seen) →
-    g < length groups → seen ≡ get_or groups g seen → AreGroups groups path ranked →
-    IsSeen seen (slab g path ranked)
-group-at groups path ranked g seen h e it =
-    subst (λ s. IsSeen s (slab g path ranked)) (sym (e ∙ get_or_default groups g seen nothing_seen
-    h))
-    (it.seen g)
 
 -- one group more in a sum
 pub total-more : (g : ℕ) (f : ℕ → ℤ) (s z : ℤ) → s ≡ int_total g f → z ≡ f g →

@@ -33,9 +33,9 @@ use Rattle.log_checker.specs.Keys.{IsKey, AreSorted, group_in, key_in}
 use Rattle.log_checker.specs.Slacks.{slack_of, no_live}
 use Rattle.least_slacks.specs.declared.key.Key.{Key}
 use Rattle.log_checker.specs.declared.keys.LiveGroup.{LiveGroup}
-use Rattle.log_checker.proofs.KeyLemmas.{low-from}
-use Rattle.log_checker.proofs.PriceLemmas.{live-fits, seen-once}
-use Rattle.log_checker.proofs.LiveLemmas.{lives-is}
+use Rattle.log_checker.proofs.KeysDecide.{low-from}
+use Rattle.log_checker.proofs.LegalGroups.{live-fits, seen-once}
+use Rattle.log_checker.proofs.LiveGroups.{lives-is}
 use Rattle.log_checker.proofs.Sorted.{times-moved}
 
 -- the groups of the live ones in order
@@ -71,22 +71,6 @@ sorted-lives mill rest groups sorted i it h =
     let u = Among-unfilter (λ g. lives mill rest (get_or groups g nothing_seen)) g
     (below (length groups)) m in
     (below-lt g (length groups) u.0, u.1)
-
--- the live group of a place in order, as an element
-pub live-at : (mill : Mill) (rest : List Order) (groups : List Seen) (sorted : List LiveGroup)
-    (i : ℕ) (live : LiveGroup) → AreSorted mill rest groups sorted → i < length sorted →
-    live ≡ get_or sorted i live →
-    (live.group < length groups)
-    × (lives mill rest (get_or groups live.group nothing_seen) ≡ true)
-    × (live ≡ get_or sorted i no_live)
-live-at mill rest groups sorted i live it h e =
-    let at : live ≡ get_or sorted i no_live = e ∙ get_or_default sorted i live no_live h in
-    let l = sorted-lives mill rest groups sorted i it h in (
-      subst (λ (l : LiveGroup). l.group < length groups) (sym at) l.0,
-      subst (λ (l : LiveGroup). lives mill rest (get_or groups l.group nothing_seen) ≡ true)
-          (sym at) l.1,
-      at,
-    )
 
 pub sorted-keys : (mill : Mill) (rest : List Order) (groups : List Seen)
     (sorted : List LiveGroup) (i : ℕ) → AreSorted mill rest groups sorted → i < length sorted →

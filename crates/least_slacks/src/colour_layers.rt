@@ -213,8 +213,7 @@ fn add_next(
     requires layers { layers ≤ 9 }
     requires stretch { IsStretch later.now.items.now run.0 run.1 }
     requires near { AreNear 200000000000000000 tables.old }
-    ensures best {
-        AreLayersOf later.now (let_to later.now out.now run.0) layers
+    ensures best { AreLayersOf later.now (let_to later.now out.now run.0) layers
         (length table.old) tables.old →
         AreLayersOf later.now (let_to later.now out.now run.1) layers
         (length table.old) tables.new }
@@ -238,8 +237,7 @@ pub(crate) fn add_colours(
     requires shape { layers * length table.old ≤ length tables.old }
     requires layers { layers ≤ 9 }
     requires near { AreNear 0 tables.old }
-    ensures best {
-        AreLayersOf later.now no_place layers (length table.old) tables.old →
+    ensures best { AreLayersOf later.now no_place layers (length table.old) tables.old →
         AreLayersOf later.now (others_of later.now out.now) layers (length table.old) tables.new }
     ensures near { AreNear 200000000000000000 tables.new }
 {

@@ -480,8 +480,18 @@ fn judge_keys(
 {
     let coming = [NO_COLOUR; 8];
     let out = [NO_COLOUR; 8];
-    let new_slab = Key { coming, colours: 0, load: 0 };
-    let made = Made { out, layers: 0, width: 0, colours: 0, reach: 0 };
+    let new_slab = Key {
+        coming,
+        colours: 0,
+        load: 0,
+    };
+    let made = Made {
+        out,
+        layers: 0,
+        width: 0,
+        colours: 0,
+        reach: 0,
+    };
     let (slack, made) = slack_of(layers, one, limits, later, &[new_slab], new_slab, made);
     if slack < 0 {
         return false;

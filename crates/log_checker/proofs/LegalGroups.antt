@@ -1,17 +1,13 @@
 -- What is seen of the groups of a path: each colour once, and a live group is legal.
-use Rattle.std.proofs.Common.{ℕ, suc, ◌+◌, ◌<◌, ◌≤◌, ◌≡◌, Bool, true, false, List, [], ◌∷◌, ◌++◌}
+use Rattle.std.proofs.Common.{ℕ, suc, ◌+◌, ◌≤◌, ◌≡◌, Bool, true, false, List, [], ◌∷◌, ◌++◌}
 use Rattle.std.proofs.Common.{length, map, leb, leb-true, refl, sym, ◌∙◌, arith, inl, inr, cond}
-use Rattle.std.proofs.Common.{length-append, get_or, subst, ℤ, ◌+ℤ◌}
-use Rattle.std.proofs.lemmas.List.{get_or_default}
+use Rattle.std.proofs.Common.{length-append, ℤ, ◌+ℤ◌}
 use Rattle.list_laws.specs.Sets.{holds, different, int_total}
 use Rattle.mill_model.specs.Slab.{Mill, colours}
 use Rattle.mill_model.specs.declared.order.Order.{Order}
 use Rattle.list_laws.proofs.Tests.{and-left, and-right, or-cases}
 use Rattle.list_laws.proofs.Different.{different-mono}
-use Rattle.set_minima.specs.Joins.{IsSlab}
-use Rattle.log_checker.specs.Groups.{Seen, IsSeen, with_colour, joined, may_be, nothing_seen}
-use Rattle.log_checker.specs.Groups.{AreGroups}
-use Rattle.mill_model.specs.Plan.{slab}
+use Rattle.log_checker.specs.Groups.{Seen, IsSeen, with_colour, joined, may_be}
 use Rattle.log_checker.specs.Live.{lives}
 
 -- each colour of a group stands once in what is seen of it

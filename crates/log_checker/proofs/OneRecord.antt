@@ -9,9 +9,8 @@ use Rattle.mill_model.specs.Tree.{next_new, may_go_on}
 use Rattle.mill_model.specs.Log.{Task, recorded, left_open}
 use Rattle.mill_model.specs.declared.closing.Entry.{Entry}
 use Rattle.list_laws.proofs.Tests.{and-left, and-right}
-use Rattle.refute_log.specs.Rising.{comes_before, rises}
+use Rattle.refute_log.specs.Rising.{rises}
 use Rattle.refute_log.specs.Fits.{path_fits, fits}
-use Rattle.refute_log.proofs.Order.{before-differs, after-differs, before-not}
 use Rattle.log_checker.specs.Verdict.{holds_up, verdict_from, IsVerdict}
 use Rattle.log_checker.specs.Agenda.{wanted_path, to_come, is_within, opened, opened_from}
 use Rattle.log_checker.proofs.WaitingPaths.{opened-come}

@@ -4,11 +4,11 @@
 use Rattle.std.proofs.Common.{ℕ, zero, suc, ◌+◌, ◌*◌, ◌<◌, ◌≤◌, ◌≡◌, ◌⊎◌, Bool, true, false, List}
 use Rattle.std.proofs.Common.{[], ◌∷◌, map, drop, length, get_or, set, eqb, eq-eqb, eqb-true, refl}
 use Rattle.std.proofs.Common.{sym, ap, ◌∙◌, subst, arith, inl, inr, All, ℤ, pos, slice_index, ◌+ℤ◌}
-use Rattle.std.proofs.Common.{◌-◌, ◌++◌, take, ◌&&◌, ◌||◌, ltb, lt-ltb, cond, zero-add, ap₂}
+use Rattle.std.proofs.Common.{◌++◌, take, ◌&&◌, ◌||◌, ltb, lt-ltb, cond, zero-add, ap₂}
 use Rattle.std.proofs.lemmas.Bool.Decides.{nat_tests}
 use Rattle.std.proofs.lemmas.Int.{ints}
 use Rattle.std.proofs.lemmas.List.{take_all, drop_all, drop_more, get_or-set_same, get_or-set_other}
-use Rattle.std.proofs.lemmas.List.{get_or_default, length-map}
+use Rattle.std.proofs.lemmas.List.{length-map}
 use Rattle.std.proofs.lemmas.List.Sorted.{All-permutation, IsPermutation-map}
 use Rattle.mill_model.specs.Instance.{IsOrder}
 use Rattle.mill_model.specs.Plan.{slab}
@@ -27,7 +27,7 @@ use Rattle.least_slacks.specs.Cells.{IsSmall}
 use Rattle.least_slacks.specs.Keys.{AreLeast, HasColours, no_key}
 use Rattle.least_slacks.specs.Limits.{mill_within}
 use Rattle.least_slacks.specs.declared.limits.SlabLimits.{SlabLimits}
-use Rattle.log_checker.specs.Groups.{Seen, IsSeen, AreGroups, nothing_seen}
+use Rattle.log_checker.specs.Groups.{Seen, AreGroups, nothing_seen}
 use Rattle.log_checker.specs.Live.{lives, live_of}
 use Rattle.log_checker.specs.Keys.{IsKey, AreSorted, group_in, key_in}
 use Rattle.log_checker.specs.Slacks.{slack_of, no_live}

@@ -15,7 +15,6 @@ ghost use Rattle.log_checker.specs.Verdict.{IsVerdict, verdict_from};
 ghost use Rattle.log_checker.specs.Agenda.{wanted_path, to_come, is_within, is_split, opened_by};
 ghost use Rattle.log_checker.specs.declared.verdict.LogVerdict.TheVariants.{Missing, Stray};
 ghost use Rattle.log_checker.specs.declared.verdict.LogVerdict.TheVariants.{Refutes, Unsound};
-
 ghost use Rattle.least_slacks.specs.Keys.{HasRoom};
 
 use crate::LogVerdict;

@@ -9,8 +9,8 @@ ghost use Rattle.log_checker.specs.Keys.{key_order, key_in, IsKey, AreLive, AreC
 ghost use Rattle.log_checker.specs.Keys.{AreSorted, same_key, same_keys};
 
 use crate::groups::Group;
-use crate::rules::Rules;
 use crate::live::is_live;
+use crate::rules::Rules;
 use least_slacks::{Key, NO_COLOUR};
 use mill_model::OutOfMemory;
 use std::alloc::Global;

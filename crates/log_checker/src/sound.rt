@@ -9,15 +9,14 @@ ghost use Rattle.refute_log.specs.Fits.{path_fits, fits};
 ghost use Rattle.log_checker.specs.Groups.{nothing_seen};
 ghost use Rattle.log_checker.specs.ByRules.{task_by, mill_by};
 ghost use Rattle.log_checker.specs.Verdict.{holds_up};
-
 ghost use Rattle.least_slacks.specs.Keys.{HasRoom};
 
 use crate::dominated::{in_tree, is_settled};
 use crate::groups::{Group, groups_of};
-use crate::rules::Rules;
 use crate::keys::same_live;
 use crate::live::dead_charge;
 use crate::price::priced_is_sound;
+use crate::rules::Rules;
 use crate::tree::starts_class;
 use least_slacks::SlackTables;
 use mill_model::{Closing, Entry, OutOfMemory};

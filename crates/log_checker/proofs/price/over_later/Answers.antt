@@ -1,4 +1,4 @@
-use Rattle.std.proofs.Common.{ℕ, ℤ, ◌≡◌, ◌+◌, ◌≤◌, ◌∙◌, ◌+ℤ◌, ◌-ℤ◌, ◌*ℤ◌, true, false, length, drop, pos}
+use Rattle.std.proofs.Common.{ℕ, ℤ, ◌≡◌, ◌+◌, ◌≤◌, ◌∙◌, ◌+ℤ◌, ◌-ℤ◌, ◌*ℤ◌, true, length, drop, pos}
 use Rattle.std.proofs.Common.{int_lt, eqb, eq-eqb, arith, ap, ap₂, sym, subst, SFits, w64, to_z-of_z}
 use Rattle.std.proofs.Common.{rules, slice_index, refl, get_or, All, List, map}
 use Rattle.std.proofs.lemmas.Int.{ints}
@@ -59,8 +59,10 @@ returns c =
     let long : eqb (length c.args.path.now + length prices) (length ranked) ≡ true =
     eq-eqb _ _ c.requires.same in
     let given = rw c.in-Some.is at c.in_ok-found.ensures.some in
-    let mills : mill_within limits ≡ mill = ap₂ (λ (a b : ℕ). record { largest = a;
-    most_colours = b }) c.limits-limits.ensures.largest c.limits-limits.ensures.most in
+    let mills : mill_within limits ≡ mill = ap₂ (λ (a b : ℕ). record {
+      largest = a;
+      most_colours = b;
+    }) c.limits-limits.ensures.largest c.limits-limits.ensures.most in
     let same_valid : valid (mill_within limits) (λ l. slice_index limits.charges.now l)
     c.later-rest.result.now prices
     ≡ valid mill charge (drop (length c.args.path.now) ranked) prices =

@@ -1,4 +1,4 @@
-use Rattle.std.proofs.Common.{◌≡◌, ◌+◌, ◌-◌, ◌<◌, ◌≤◌, ◌∙◌, ℕ, ℤ, length, drop, get_or, map, pos, arith}
+use Rattle.std.proofs.Common.{◌≡◌, ◌<◌, ◌∙◌, ℕ, ℤ, length, drop, get_or, pos, arith}
 use Rattle.std.proofs.Common.{ap, ap₂, sym, subst, refl, All, SFits, w64, to_z, of_z, to_z-of_z, rules}
 use Rattle.std.proofs.Common.{set}
 use Rattle.std.proofs.lemmas.List.{get_or_default, length-drop, length-set}

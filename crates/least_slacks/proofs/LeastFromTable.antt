@@ -1,6 +1,6 @@
 -- The greatest gain of the sets that may join a slab is its least slack with the other sign, and as
 -- the gain of a set it isn't large.
-use Rattle.std.proofs.Common.{ℕ, suc, ◌+◌, ◌*◌, ◌≤◌, ◌≡◌, List, length, get_or, ℤ, pos, neg_ℤ, ◌≤ℤ◌}
+use Rattle.std.proofs.Common.{ℕ, ◌+◌, ◌*◌, ◌≤◌, ◌≡◌, List, length, get_or, ℤ, pos, neg_ℤ, ◌≤ℤ◌}
 use Rattle.std.proofs.Common.{Option, Some, None, refl, All, arith, Bool, true, false, int_lt, inl}
 use Rattle.std.proofs.Common.{inr, append-nil}
 use Rattle.std.proofs.lemmas.Int.{ints}

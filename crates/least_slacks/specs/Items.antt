@@ -1,5 +1,5 @@
 -- The later orders, each once, colour by colour: an item for each of them.
-use Rattle.std.specs.Prelude.{ℕ, ◌<◌, ◌≤◌, ◌≡◌, Bool, false, not, ◌&&◌, ◌||◌, eqb, List, [], length}
+use Rattle.std.specs.Prelude.{ℕ, ◌<◌, ◌≤◌, ◌≡◌, Bool, false, not, ◌&&◌, ◌||◌, eqb, List, length}
 use Rattle.std.specs.Prelude.{take, slice_index_or}
 use Rattle.std.specs.List.{list_any}
 use Rattle.list_laws.specs.Sets.{holds}

@@ -1,7 +1,5 @@
 -- What the knapsack works on: later orders, tables of them, and layers of tables.
 use Rattle.std.specs.Prelude.{ℕ, ◌+◌, ◌*◌, ◌<◌, ◌≤◌, ◌≡◌, Bool, ℤ, List, [], Option, length, map}
-use Rattle.std.specs.Prelude.{All}
-use Rattle.mill_model.specs.Instance.{IsOrder}
 use Rattle.list_laws.specs.Sets.{holds, different}
 use Rattle.mill_model.specs.Slab.{load}
 use Rattle.mill_model.specs.declared.order.Order.{Order}

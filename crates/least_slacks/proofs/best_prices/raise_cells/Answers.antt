@@ -1,11 +1,10 @@
-use Rattle.std.proofs.Common.{◌≡◌, ℕ, ◌+◌, ◌-◌, ◌<◌, ◌≤◌, ◌∙◌, ◌⊎◌, ap, refl, inl, inr, get_or, pos}
-use Rattle.std.proofs.Common.{set, SFits, w64, to_z-of_z, rules, arith, true, false, leb, leb-true}
+use Rattle.std.proofs.Common.{◌≡◌, ◌+◌, ◌-◌, ◌<◌, ◌≤◌, ap, refl, inl, inr, get_or, pos}
+use Rattle.std.proofs.Common.{SFits, w64, to_z-of_z, rules, arith, leb, leb-true}
 use Rattle.std.proofs.Common.{leb-false, length, eqb, eqb-true}
 use Rattle.std.proofs.lemmas.List.{get_or-set_same, get_or-set_other}
 use Rattle.std.proofs.lemmas.Bool.{cases_lt}
 use Rattle.list_laws.proofs.Tests.{either}
-use Rattle.set_minima.specs.Packs.{better, with_price}
-use Rattle.least_slacks.specs.Cells.{cell, found}
+use Rattle.least_slacks.specs.Cells.{found}
 use Rattle.least_slacks.proofs.CellNumbers.{near-wider}
 use Rattle.least_slacks.proofs.OneCell.{differ, raised-done, raised-other}
 use Rattle.least_slacks.proofs.best_prices.raise_cells.Goals as goal

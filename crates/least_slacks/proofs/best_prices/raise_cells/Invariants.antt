@@ -1,4 +1,4 @@
-use Rattle.std.proofs.Common.{◌≡◌, ℕ, ◌+◌, ◌-◌, ◌<◌, ◌≤◌, ◌⊎◌, leb, cond, slice_index_or, pos}
+use Rattle.std.proofs.Common.{◌≡◌, ℕ, ◌+◌, ◌-◌, ◌<◌, ◌≤◌, ◌⊎◌, slice_index_or, pos}
 use Rattle.set_minima.specs.Packs.{better, with_price}
 use Rattle.least_slacks.specs.Cells.{cell, AreNear}
 use Rattle.least_slacks.proofs.best_prices.raise_cells.Given as goal

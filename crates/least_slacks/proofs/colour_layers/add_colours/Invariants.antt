@@ -1,4 +1,4 @@
-use Rattle.std.proofs.Common.{◌≡◌, ℕ, ◌+◌, ◌-◌, ◌*◌, ◌<◌, ◌≤◌, length}
+use Rattle.std.proofs.Common.{ℕ, ◌-◌, ◌*◌, ◌<◌, ◌≤◌, length}
 use Rattle.least_slacks.specs.Cells.{AreNear}
 use Rattle.least_slacks.specs.Items.{item_at, no_place}
 use Rattle.least_slacks.specs.Later.{let_to, AreLayersOf}

@@ -1,4 +1,4 @@
-use Rattle.std.proofs.Common.{◌≡◌, ℕ, suc, ◌+◌, ◌-◌, ◌*◌, ◌≤◌, get_or, pos, arith, sym, refl}
+use Rattle.std.proofs.Common.{◌≡◌, ℕ, suc, ◌+◌, ◌-◌, ◌*◌, ◌≤◌, get_or, pos, arith, sym}
 use Rattle.std.proofs.Common.{SFits, w64, to_z-of_z, rules}
 use Rattle.least_slacks.specs.Cells.{cell}
 use Rattle.least_slacks.specs.Items.{item_at}

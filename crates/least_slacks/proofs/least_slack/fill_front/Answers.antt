@@ -1,8 +1,8 @@
-use Rattle.std.proofs.Common.{◌≡◌, ℕ, suc, [], ◌+◌, ◌*◌, ◌<◌, ◌≤◌, length, take, drop, pos, arith, sym}
+use Rattle.std.proofs.Common.{◌≡◌, suc, [], ◌+◌, ◌*◌, ◌≤◌, length, take, drop, pos, arith, sym}
 use Rattle.std.proofs.Common.{subst, mul-le-mul_right}
 use Rattle.std.proofs.lemmas.List.{length-take, get_or_append_left}
 use Rattle.set_minima.specs.Packs.{IsBest}
-use Rattle.least_slacks.specs.Cells.{cell, found, IsNear}
+use Rattle.least_slacks.specs.Cells.{found, IsNear}
 use Rattle.least_slacks.specs.Later.{others_of}
 use Rattle.least_slacks.proofs.least_slack.fill_front.Goals as goal
 

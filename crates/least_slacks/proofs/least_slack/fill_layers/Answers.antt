@@ -1,4 +1,4 @@
-use Rattle.std.proofs.Common.{◌≡◌, ℕ, zero, suc, [], ◌+◌, ◌<◌, length, sym, subst, refl, zero-add}
+use Rattle.std.proofs.Common.{◌≡◌, ℕ, zero, suc, [], ◌<◌, length, sym, subst, refl, zero-add}
 use Rattle.std.proofs.Common.{true, false}
 use Rattle.set_minima.specs.Packs.{IsBest}
 use Rattle.set_minima.proofs.OneColour.{layer-spread, table-none, table-empty}

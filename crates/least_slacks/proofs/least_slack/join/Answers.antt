@@ -1,4 +1,4 @@
-use Rattle.std.proofs.Common.{◌≡◌, ℕ, List, [], ◌+◌, ◌-◌, ◌*◌, ◌<◌, ◌≤◌, length, arith, sym, subst, inl, inr}
+use Rattle.std.proofs.Common.{◌≡◌, ℕ, List, [], ◌+◌, ◌-◌, ◌*◌, ◌<◌, length, arith, subst, inl, inr}
 use Rattle.set_minima.specs.Packs.{IsBest}
 use Rattle.set_minima.specs.Joins.{all_places}
 use Rattle.set_minima.proofs.LeftOut.{layer-enough}

@@ -1,4 +1,4 @@
-use Rattle.std.proofs.Common.{◌≡◌, ℕ, ◌+◌, ◌<◌, ◌∙◌, not, [], length, get_or, pos, sym, subst}
+use Rattle.std.proofs.Common.{◌≡◌, ◌+◌, ◌∙◌, not, [], length, sym, subst}
 use Rattle.std.proofs.Common.{arith, true, false, Bool, refl}
 use Rattle.list_laws.specs.Sets.{holds}
 use Rattle.set_minima.specs.Packs.{IsBest, colour_at}

@@ -1,15 +1,13 @@
-use Rattle.std.proofs.Common.{◌≡◌, ◌≢◌, ℕ, zero, suc, List, [], ◌∷◌, ◌<◌, ◌≤◌, ◌∙◌, true, false}
-use Rattle.std.proofs.Common.{length, replicate, ap, sym, refl, arith, ne_eqb, eqb, ℤ, pos, ◌<ℤ◌}
-use Rattle.std.proofs.Common.{◌≤ℤ◌, int_le, int_lt, SFits, w64, to_z-of_z, rules, slice_index}
+use Rattle.std.proofs.Common.{◌≡◌, ℕ, zero, suc, [], ◌≤◌, ◌∙◌, true, false}
+use Rattle.std.proofs.Common.{replicate, ap, sym, refl, arith, ne_eqb, eqb, ℤ, pos}
+use Rattle.std.proofs.Common.{int_le, int_lt, SFits, w64, to_z-of_z, rules, slice_index}
 use Rattle.std.proofs.lemmas.Int.{ints}
 use Rattle.list_laws.specs.Sets.{holds}
-use Rattle.mill_model.specs.Prices.{least_slack, valid}
 use Rattle.set_minima.specs.Packs.{colour_at, nobody}
 use Rattle.set_minima.specs.Joins.{IsSlab}
 use Rattle.set_minima.proofs.Groups.{valid-least}
 use Rattle.least_slacks.specs.Keys.{HasColours}
 use Rattle.least_slacks.specs.Limits.{mill_within}
-use Rattle.least_slacks.specs.declared.key.Key.{Key}
 use Rattle.least_slacks.proofs.least_slack.judge_keys.Goals as goal
 
 no-colour : (c n : ℕ) → c ≤ 4096 → holds c (replicate n 65535) ≡ false

@@ -1,4 +1,4 @@
-use Rattle.std.proofs.Common.{◌≡◌, ℕ, ◌+◌, ◌*◌, ◌≤◌, length, arith, max, mul-le-mul_left, mul-le-mul_right}
+use Rattle.std.proofs.Common.{ℕ, ◌+◌, ◌*◌, ◌≤◌, arith, mul-le-mul_left, mul-le-mul_right}
 use Rattle.least_slacks.proofs.least_slack.refill.Goals as goal
 
 product : (a b x y : ℕ) → a ≤ x → b ≤ y → a * b ≤ x * y

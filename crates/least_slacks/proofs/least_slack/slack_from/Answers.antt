@@ -1,11 +1,11 @@
-use Rattle.std.proofs.Common.{◌≡◌, ℕ, ◌+◌, ◌<◌, ◌≤◌, ◌∙◌, length, take, get_or, pos, inl, inr}
+use Rattle.std.proofs.Common.{◌≡◌, ◌≤◌, ◌∙◌, length, take, pos, inl, inr}
 use Rattle.std.proofs.Common.{arith, subst, sym, slice_index}
 use Rattle.std.proofs.lemmas.Bool.{cases_lt}
 use Rattle.std.proofs.lemmas.List.{get_or-take, length-take, get_or_past}
-use Rattle.set_minima.specs.Packs.{IsTop, IsBest, IsTable}
+use Rattle.set_minima.specs.Packs.{IsTop, IsBest}
 use Rattle.set_minima.specs.Joins.{gain, Joins, Packed, all_places}
 use Rattle.set_minima.proofs.LeftOut.{joins-within}
-use Rattle.least_slacks.specs.Cells.{cell, found, IsSmall, IsNear}
+use Rattle.least_slacks.specs.Cells.{found, IsSmall}
 use Rattle.least_slacks.proofs.CellNumbers.{turned}
 use Rattle.least_slacks.proofs.LayersRaised.{near-zero}
 use Rattle.least_slacks.proofs.LeastFromTable.{least-from, small-from}

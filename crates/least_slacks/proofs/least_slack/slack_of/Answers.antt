@@ -1,4 +1,4 @@
-use Rattle.std.proofs.Common.{◌≡◌, ℕ, List, ◌<◌, ◌≤◌, ◌∙◌, length, arith, sym, subst, SFits, w64}
+use Rattle.std.proofs.Common.{◌≡◌, ℕ, List, ◌≤◌, length, arith, sym, subst, SFits, w64}
 use Rattle.std.proofs.Common.{to_z-of_z, rules}
 use Rattle.list_laws.specs.Sets.{different}
 use Rattle.least_slacks.specs.Later.{HaveSame}

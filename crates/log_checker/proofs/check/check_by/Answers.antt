@@ -4,7 +4,7 @@ use Rattle.log_checker.specs.Agenda.{wanted_path}
 use Rattle.log_checker.specs.ByRules.{task_by}
 use Rattle.log_checker.specs.Verdict.{IsVerdict}
 use Rattle.log_checker.specs.declared.verdict.LogVerdict.TheVariants.{Missing}
-use Rattle.log_checker.proofs.StepLemmas.{end-refutes, end-missing, found-verdict}
+use Rattle.log_checker.proofs.OneRecord.{end-refutes, end-missing, found-verdict}
 use Rattle.log_checker.proofs.check.check_by.Goals as goal
 
 pub returns-in-Some : goal.returns-in-Some

@@ -1,6 +1,6 @@
 use Rattle.std.proofs.Common.{◌≡◌, ◌∙◌, length, sym}
 use Rattle.mill_model.specs.Instance.{mill_of}
-use Rattle.mill_model.specs.Log.{Task, task_of}
+use Rattle.mill_model.specs.Log.{task_of}
 use Rattle.mill_model.specs.Charges.{charge_of}
 use Rattle.mill_laws.proofs.LogLaws.{refuted-loss-bounds}
 use Rattle.log_checker.specs.ByRules.{task_by}

@@ -1,6 +1,6 @@
 use Rattle.std.proofs.Common.{◌≤◌, length, arith}
 use Rattle.mill_model.specs.Tree.{next_new}
-use Rattle.log_checker.proofs.StepLemmas.{numbers-few}
+use Rattle.log_checker.proofs.OneRecord.{numbers-few}
 use Rattle.log_checker.proofs.check.open.Goals as goal
 
 pub open_children-requires-clause-few : goal.open_children-requires-clause-few

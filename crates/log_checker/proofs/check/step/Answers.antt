@@ -2,7 +2,7 @@ use Rattle.std.proofs.Common.{◌≡◌, ◌++◌, ◌∷◌, [], sym, rules, tr
 use Rattle.list_laws.specs.Sets.{same_list}
 use Rattle.log_checker.specs.ByRules.{task_by}
 use Rattle.log_checker.specs.Verdict.{holds_up}
-use Rattle.log_checker.proofs.StepLemmas.{step-unsound, step-goes, step-within}
+use Rattle.log_checker.proofs.OneRecord.{step-unsound, step-goes, step-within}
 use Rattle.log_checker.proofs.check.step.Goals as goal
 
 pub returns-then-not-good-clause-found : goal.returns-then-not-good-clause-found

@@ -2,8 +2,8 @@ use Rattle.std.proofs.Common.{◌≤◌, ◌≡◌, ◌<◌, ◌+◌, sym, ap, �
 use Rattle.mill_model.specs.Tree.{next_new}
 use Rattle.log_checker.specs.Groups.{no_order}
 use Rattle.log_checker.specs.ByRules.{mill_by}
-use Rattle.log_checker.proofs.GroupLemmas.{groups-more, number-below}
-use Rattle.log_checker.proofs.TreeLemmas.{goes-further, next_new-push}
+use Rattle.log_checker.proofs.GroupsOfPath.{groups-more, number-below}
+use Rattle.log_checker.proofs.PathsGoOn.{goes-further, next_new-push}
 use Rattle.log_checker.proofs.dominated.goes_through.Goals as goal
 
 pub goes_on_at-on-requires-clause-seen : goal.goes_on_at-on-requires-clause-seen

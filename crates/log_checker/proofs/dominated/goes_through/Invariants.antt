@@ -1,7 +1,7 @@
 use Rattle.std.proofs.Common.{◌≡◌, [], take, drop}
 use Rattle.mill_model.specs.Tree.{next_new, goes_on}
 use Rattle.log_checker.specs.ByRules.{mill_by}
-use Rattle.log_checker.proofs.GroupLemmas.{GroupsTo}
+use Rattle.log_checker.proofs.GroupsOfPath.{GroupsTo}
 use Rattle.log_checker.proofs.dominated.goes_through.Given as goal
 
 abbrev pub invariant-loop-k : goal.invariant-loop-k

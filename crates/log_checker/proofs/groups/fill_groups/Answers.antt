@@ -1,6 +1,6 @@
 use Rattle.std.proofs.Common.{◌≤◌, ◌<◌, get_or, arith, add-one}
 use Rattle.mill_model.specs.Tree.{next_new}
-use Rattle.log_checker.proofs.GroupLemmas.{groups-more, number-below, groups-all}
+use Rattle.log_checker.proofs.GroupsOfPath.{groups-more, number-below, groups-all}
 use Rattle.log_checker.specs.Groups.{no_order}
 use Rattle.log_checker.proofs.groups.fill_groups.Goals as goal
 

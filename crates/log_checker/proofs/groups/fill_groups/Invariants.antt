@@ -1,4 +1,4 @@
-use Rattle.log_checker.proofs.GroupLemmas.{GroupsTo}
+use Rattle.log_checker.proofs.GroupsOfPath.{GroupsTo}
 use Rattle.log_checker.proofs.groups.fill_groups.Given as goal
 
 abbrev pub invariant-loop-i : goal.invariant-loop-i

@@ -3,7 +3,7 @@ use Rattle.std.proofs.Common.{take, refl, Bool, true, false}
 use Rattle.std.proofs.lemmas.List.{take_all}
 use Rattle.std.proofs.lemmas.List.Sorted.{IsNonDecreasingBy-from_sort}
 use Rattle.mill_model.specs.LiveKey.{has_colour}
-use Rattle.log_checker.proofs.ComingLemmas.{note-more, coming-from}
+use Rattle.log_checker.proofs.ComingColours.{note-more, coming-from}
 use Rattle.log_checker.proofs.keys.coming_colours.Goals as goal
 
 pub loop-i-preserved : goal.loop-i-preserved

@@ -5,7 +5,7 @@ use Rattle.log_checker.specs.Groups.{nothing_seen}
 use Rattle.log_checker.specs.ByRules.{mill_by}
 use Rattle.log_checker.specs.Keys.{IsKey}
 use Rattle.log_checker.specs.Live.{lives}
-use Rattle.log_checker.proofs.PriceLemmas.{live-fits}
+use Rattle.log_checker.proofs.LegalGroups.{live-fits}
 use Rattle.log_checker.proofs.keys.live_group.Goals as goal
 
 pub key_of-key-requires-clause-few : goal.key_of-key-requires-clause-few

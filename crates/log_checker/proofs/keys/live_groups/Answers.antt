@@ -8,7 +8,7 @@ use Rattle.log_checker.specs.ByRules.{mill_by}
 use Rattle.log_checker.specs.Keys.{IsKey, group_in}
 use Rattle.log_checker.specs.Live.{lives}
 use Rattle.log_checker.specs.declared.keys.LiveGroup.{LiveGroup}
-use Rattle.log_checker.proofs.LiveLemmas.{below-push}
+use Rattle.log_checker.proofs.LiveGroups.{below-push}
 use Rattle.log_checker.proofs.keys.live_groups.Goals as goal
 use Rattle.log_checker.proofs.keys.live_groups.Goals.{in-Some+in_ok-push-in-Some, in-None}
 

@@ -1,7 +1,7 @@
 use Rattle.std.proofs.Common.{◌∙◌, ap₂, drop}
 use Rattle.log_checker.specs.ByRules.{mill_by}
 use Rattle.log_checker.specs.Keys.{same_keys}
-use Rattle.log_checker.proofs.KeyLemmas.{keys-decide, low-from}
+use Rattle.log_checker.proofs.KeysDecide.{keys-decide, low-from}
 use Rattle.log_checker.proofs.keys.same_live.Goals as goal
 
 pub returns : goal.returns

@@ -1,4 +1,4 @@
-use Rattle.std.proofs.Common.{ℕ, ℤ, ◌≡◌, ◌+◌, ◌≤◌, ◌∙◌, ◌+ℤ◌, ◌-ℤ◌, ◌*ℤ◌, true, false, length, drop, pos}
+use Rattle.std.proofs.Common.{ℕ, ℤ, ◌≡◌, ◌+◌, ◌≤◌, ◌∙◌, ◌+ℤ◌, ◌-ℤ◌, ◌*ℤ◌, true, length, drop, pos}
 use Rattle.std.proofs.Common.{int_lt, eqb, eq-eqb, arith, ap, ap₂, sym, subst, SFits, w64, to_z-of_z}
 use Rattle.std.proofs.Common.{rules, slice_index, refl, get_or, All, List, map}
 use Rattle.std.proofs.lemmas.Int.{ints}
@@ -15,9 +15,9 @@ use Rattle.log_checker.specs.ByRules.{mill_by}
 use Rattle.log_checker.specs.Groups.{nothing_seen}
 use Rattle.log_checker.specs.Keys.{key_in}
 use Rattle.log_checker.specs.Slacks.{slack_of}
-use Rattle.log_checker.proofs.PriceLemmas.{seen-once}
-use Rattle.log_checker.proofs.SlackLemmas.{keys-legal, slacks-sum}
-use Rattle.log_checker.proofs.StepLemmas.{numbers-few}
+use Rattle.log_checker.proofs.LegalGroups.{seen-once}
+use Rattle.log_checker.proofs.SlacksOfGroups.{keys-legal, slacks-sum}
+use Rattle.log_checker.proofs.OneRecord.{numbers-few}
 use Rattle.log_checker.proofs.price.over_later.Goals as goal
 
 pub sorted_live-requires-clause-once : goal.sorted_live-requires-clause-once

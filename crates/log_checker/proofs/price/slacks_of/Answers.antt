@@ -1,4 +1,4 @@
-use Rattle.std.proofs.Common.{◌≡◌, ◌+◌, ◌-◌, ◌<◌, ◌≤◌, ◌∙◌, ℕ, ℤ, length, drop, get_or, map, pos, arith}
+use Rattle.std.proofs.Common.{◌≡◌, ◌<◌, ◌∙◌, ℕ, ℤ, length, drop, get_or, pos, arith}
 use Rattle.std.proofs.Common.{ap, ap₂, sym, subst, refl, All, SFits, w64, to_z, of_z, to_z-of_z, rules}
 use Rattle.std.proofs.Common.{set}
 use Rattle.std.proofs.lemmas.List.{get_or_default, length-drop, length-set}
@@ -7,8 +7,8 @@ use Rattle.log_checker.specs.ByRules.{mill_by}
 use Rattle.log_checker.specs.Slacks.{slack_of, no_live}
 use Rattle.log_checker.specs.declared.keys.LiveGroup.{LiveGroup}
 use Rattle.least_slacks.specs.Cells.{IsSmall}
-use Rattle.log_checker.proofs.SlackLemmas.{charged-first, live-slack, slack-step, slack-last}
-use Rattle.log_checker.proofs.SlackLemmas.{sorted-lives}
+use Rattle.log_checker.proofs.SlacksOfGroups.{charged-first, live-slack, slack-step, slack-last}
+use Rattle.log_checker.proofs.SlacksOfGroups.{sorted-lives}
 use Rattle.log_checker.proofs.price.slacks_of.Goals as goal
 
 pub loop-i-init : goal.loop-i-init

@@ -1,6 +1,6 @@
 use Rattle.std.proofs.Common.{◌≡◌, ◌∙◌, arith, get_or, ap}
 use Rattle.std.proofs.lemmas.List.{take_all}
-use Rattle.log_checker.proofs.SettingLemmas.{all-small}
+use Rattle.log_checker.proofs.SmallNumbers.{all-small}
 use Rattle.log_checker.proofs.setting.table.Goals as goal
 
 -- all charges are taken

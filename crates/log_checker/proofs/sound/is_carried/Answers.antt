@@ -6,9 +6,9 @@ use Rattle.mill_model.specs.Tree.{next_new}
 use Rattle.log_checker.specs.Groups.{nothing_seen}
 use Rattle.log_checker.specs.ByRules.{mill_by}
 use Rattle.log_checker.specs.Live.{same_live_seen}
-use Rattle.log_checker.proofs.PriceLemmas.{seen-once}
-use Rattle.log_checker.proofs.StepLemmas.{numbers-few}
-use Rattle.log_checker.proofs.LiveLemmas.{key-seen, dead-is}
+use Rattle.log_checker.proofs.LegalGroups.{seen-once}
+use Rattle.log_checker.proofs.OneRecord.{numbers-few}
+use Rattle.log_checker.proofs.LiveGroups.{key-seen, dead-is}
 use Rattle.log_checker.proofs.sound.is_carried.Goals as goal
 
 pub dead_charge-dead-requires-clause-few : goal.dead_charge-dead-requires-clause-few

@@ -1,7 +1,7 @@
 use Rattle.std.proofs.Common.{◌≡◌, ◌≤◌, length, ap, arith, leb, eqb, slice_index, eq-eqb, true}
 use Rattle.mill_model.specs.Tree.{next_new}
-use Rattle.log_checker.proofs.StepLemmas.{numbers-few}
-use Rattle.log_checker.proofs.LossLemmas.{loss-groups}
+use Rattle.log_checker.proofs.OneRecord.{numbers-few}
+use Rattle.log_checker.proofs.LossOfGroups.{loss-groups}
 use Rattle.log_checker.proofs.sound.leaf_is_sound.Goals as goal
 
 pub groups_charge-found-requires : goal.groups_charge-found-requires

@@ -2,7 +2,7 @@ use Rattle.std.proofs.Common.{◌≡◌, length, true, false, sym, ◌∙◌, ge
 use Rattle.mill_model.specs.Rank.{starts_class_in}
 use Rattle.log_checker.specs.Groups.{no_order, nothing_seen, joined, may_be}
 use Rattle.log_checker.specs.ByRules.{mill_by}
-use Rattle.log_checker.proofs.TreeLemmas.{goes-on-from}
+use Rattle.log_checker.proofs.PathsGoOn.{goes-on-from}
 use Rattle.log_checker.proofs.tree.may_go_on.Goals as goal
 
 pub returns-then-starts_class : goal.returns-then-starts_class

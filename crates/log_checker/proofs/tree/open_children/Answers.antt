@@ -1,7 +1,7 @@
 use Rattle.std.proofs.Common.{◌+◌, ◌≡◌, length, ap}
 use Rattle.mill_model.specs.Tree.{next_new, may_go_on}
 use Rattle.log_checker.specs.ByRules.{mill_by}
-use Rattle.log_checker.proofs.AgendaLemmas.{opened-more}
+use Rattle.log_checker.proofs.WaitingPaths.{opened-more}
 use Rattle.log_checker.proofs.tree.open_children.Goals as goal
 
 pub loop-j-preserved : goal.loop-j-preserved

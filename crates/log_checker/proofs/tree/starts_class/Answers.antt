@@ -1,7 +1,7 @@
 use Rattle.std.proofs.Common.{◌≤◌, length, suc, ◌-◌, ◌≡◌, not, sym, arith, get_or, refl}
 use Rattle.mill_model.specs.Rank.{starts_class_in, same_order}
 use Rattle.log_checker.specs.Groups.{no_order}
-use Rattle.log_checker.proofs.TreeLemmas.{starts-past, starts-inside}
+use Rattle.log_checker.proofs.PathsGoOn.{starts-past, starts-inside}
 use Rattle.log_checker.proofs.tree.starts_class.Goals as goal
 use Rattle.log_checker.proofs.tree.starts_class.Goals.{then-k-eq0-via-then-k-eq0}
 use Rattle.log_checker.proofs.tree.starts_class.Goals.{then-k-eq0-via-else-k-eq0+then-len-k}

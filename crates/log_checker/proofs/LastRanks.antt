@@ -8,7 +8,7 @@ use Rattle.mill_model.specs.LiveKey.{has_colour}
 use Rattle.mill_model.specs.declared.order.Order.{Order}
 use Rattle.list_laws.proofs.Tests.{either}
 use Rattle.log_checker.specs.Groups.{no_order}
-use Rattle.log_checker.proofs.GroupLemmas.{has-push}
+use Rattle.log_checker.proofs.GroupsOfPath.{has-push}
 
 -- the orders from a rank on, among the first
 taken-more : (k i : ℕ) (orders : List Order) → i < length orders → k ≤ i →

@@ -15,7 +15,7 @@ use Rattle.list_laws.proofs.Sums.{total-cong}
 use Rattle.log_checker.specs.Groups.{Seen, joined, nothing_seen, IsSeen, AreGroups}
 use Rattle.log_checker.specs.Live.{lives, marks, same_seen, picked, live_of, each_as_often}
 use Rattle.log_checker.specs.Live.{same_live_seen}
-use Rattle.log_checker.proofs.GroupLemmas.{seen-push, may_be-legal}
+use Rattle.log_checker.proofs.GroupsOfPath.{seen-push, may_be-legal}
 
 pub below-push : (test : ℕ → Bool) (g : ℕ) → filter test (below (g + 1)) ≡ filter test (below g)
     ++ cond (test g) (g ∷ []) []

@@ -1,17 +1,13 @@
--- Prices of a record: live groups are legal, and what is known of them serves the knapsack.
-use Rattle.std.proofs.Common.{ℕ, suc, ◌+◌, ◌<◌, ◌≤◌, ◌≡◌, Bool, true, false, List, [], ◌∷◌, ◌++◌}
+-- What is seen of the groups of a path: each colour once, and a live group is legal.
+use Rattle.std.proofs.Common.{ℕ, suc, ◌+◌, ◌≤◌, ◌≡◌, Bool, true, false, List, [], ◌∷◌, ◌++◌}
 use Rattle.std.proofs.Common.{length, map, leb, leb-true, refl, sym, ◌∙◌, arith, inl, inr, cond}
-use Rattle.std.proofs.Common.{length-append, get_or, subst, ℤ, ◌+ℤ◌}
-use Rattle.std.proofs.lemmas.List.{get_or_default}
+use Rattle.std.proofs.Common.{length-append, ℤ, ◌+ℤ◌}
 use Rattle.list_laws.specs.Sets.{holds, different, int_total}
 use Rattle.mill_model.specs.Slab.{Mill, colours}
 use Rattle.mill_model.specs.declared.order.Order.{Order}
 use Rattle.list_laws.proofs.Tests.{and-left, and-right, or-cases}
 use Rattle.list_laws.proofs.Different.{different-mono}
-use Rattle.set_minima.specs.Joins.{IsSlab}
-use Rattle.log_checker.specs.Groups.{Seen, IsSeen, with_colour, joined, may_be, nothing_seen}
-use Rattle.log_checker.specs.Groups.{AreGroups}
-use Rattle.mill_model.specs.Plan.{slab}
+use Rattle.log_checker.specs.Groups.{Seen, IsSeen, with_colour, joined, may_be}
 use Rattle.log_checker.specs.Live.{lives}
 
 -- each colour of a group stands once in what is seen of it
@@ -24,10 +20,6 @@ seen-once seen orders is =
     different-mono (map (λ o. o.colour) orders) seen.colours (λ x h. is.has x ∙ h) in
     let c : length seen.colours ≡ different (map (λ o. o.colour) orders) = is.counts in
     omega arith
-
-pub seen-slab : (seen : Seen) (orders : List Order) → IsSeen seen orders →
-    IsSlab orders seen.load seen.colours
-seen-slab seen orders is = record { weighs = sym is.weighs; same = is.has }
 
 -- a live group fits a slab
 colours-with : (c : ℕ) (colours : List ℕ) → length colours ≤ length (with_colour c colours)
@@ -51,15 +43,6 @@ live-fits mill (o ∷ rest) seen h =
           (omega arith, omega arith))
       | inr a ↦ live-fits mill rest seen a
     ]
-
--- an element of the groups of a path
-pub group-at : (groups : List Seen) (path : List ℕ) (ranked : List Order) (g : ℕ) (seen : Seen) →
-    g < length groups → seen ≡ get_or groups g seen → AreGroups groups path ranked →
-    IsSeen seen (slab g path ranked)
-group-at groups path ranked g seen h e it =
-    subst (λ s. IsSeen s (slab g path ranked)) (sym (e ∙ get_or_default groups g seen nothing_seen
-    h))
-    (it.seen g)
 
 -- one group more in a sum
 pub total-more : (g : ℕ) (f : ℕ → ℤ) (s z : ℤ) → s ≡ int_total g f → z ≡ f g →

@@ -9,12 +9,11 @@ use Rattle.mill_model.specs.Tree.{next_new, may_go_on}
 use Rattle.mill_model.specs.Log.{Task, recorded, left_open}
 use Rattle.mill_model.specs.declared.closing.Entry.{Entry}
 use Rattle.list_laws.proofs.Tests.{and-left, and-right}
-use Rattle.refute_log.specs.Rising.{comes_before, rises}
+use Rattle.refute_log.specs.Rising.{rises}
 use Rattle.refute_log.specs.Fits.{path_fits, fits}
-use Rattle.refute_log.proofs.Order.{before-differs, after-differs, before-not}
 use Rattle.log_checker.specs.Verdict.{holds_up, verdict_from, IsVerdict}
 use Rattle.log_checker.specs.Agenda.{wanted_path, to_come, is_within, opened, opened_from}
-use Rattle.log_checker.proofs.AgendaLemmas.{opened-come}
+use Rattle.log_checker.proofs.WaitingPaths.{opened-come}
 use Rattle.log_checker.proofs.Pass.{pass-verdict}
 use Rattle.mill_model.specs.Slab.{Mill}
 use Rattle.mill_model.specs.declared.order.Order.{Order}
@@ -96,17 +95,6 @@ within-both n (x ∷ xs) ys a b =
 
 module _ (task : Task) (bound : ℕ) (log : List Entry) (path : List ℕ) (paths : List (List ℕ))
     (e : Entry) (rest : List Entry) where
-  pub verdict-missing : comes_before path e.path ≡ true →
-      verdict_from task bound log (path ∷ paths) (e ∷ rest) ≡ verdicts.Missing path
-  verdict-missing b =
-      let s : same_list path e.path ≡ false = before-differs path e.path b in rw (s, b) refl
-
-  pub verdict-stray : comes_before e.path path ≡ true →
-      verdict_from task bound log (path ∷ paths) (e ∷ rest) ≡ verdicts.Stray e.path
-  verdict-stray b =
-      let s : same_list path e.path ≡ false =
-      after-differs e.path path b in rw (s, before-not e.path path b) refl
-
   pub verdict-unsound : same_list path e.path ≡ true → holds_up task bound log e ≡ false →
       verdict_from task bound log (path ∷ paths) (e ∷ rest) ≡ verdicts.Unsound path
   verdict-unsound s h = rw (s, h) refl

@@ -1,11 +1,11 @@
 -- Classes and last numbers by place.
 use Rattle.std.proofs.Common.{lt-ltb, ltb, take, drop, max, sym, ap, ◌∙◌, ℕ, zero, suc, ◌+◌, ◌-◌, ◌<◌, ◌≤◌, ◌≡◌}
-use Rattle.std.proofs.Common.{true, false, not, List, [], ◌∷◌, ◌++◌, length, get_or, refl, arith}
+use Rattle.std.proofs.Common.{true, not, List, [], ◌∷◌, ◌++◌, length, get_or, refl, arith}
 use Rattle.std.proofs.Common.{leb, le-leb, ◌&&◌, ◌||◌}
 use Rattle.mill_model.specs.Slab.{Mill, legal}
 use Rattle.mill_model.specs.Plan.{slab}
 use Rattle.log_checker.specs.Groups.{Seen, joined, may_be, nothing_seen, IsSeen}
-use Rattle.log_checker.proofs.GroupLemmas.{slab-next, seen-push, may_be-legal}
+use Rattle.log_checker.proofs.GroupsOfPath.{slab-next, seen-push, may_be-legal}
 use Rattle.std.proofs.lemmas.List.{drop_more}
 use Rattle.mill_laws.proofs.Groups.{next_new-append}
 use Rattle.mill_model.specs.Rank.{starts_class_in, same_order}
@@ -74,10 +74,6 @@ module _ (mill : Mill) (ranked : List Order) (path : List ℕ) (k : ℕ) (h : k 
   pub goes-further : may_go_on mill ranked (take k path) (get_or path k 0) ≡ true →
       goes_on mill ranked [] path ≡ goes_on mill ranked (take (k + 1) path) (drop (k + 1) path)
   goes-further m = goes-here ∙ rw (m, take-push k path h) refl
-
-  pub goes-nowhere : may_go_on mill ranked (take k path) (get_or path k 0) ≡ false →
-      goes_on mill ranked [] path ≡ false
-  goes-nowhere m = goes-here ∙ rw m refl
 
 pub next_new-push : (k : ℕ) (path : List ℕ) → k < length path →
     next_new (take (k + 1) path) ≡ max (next_new (take k path)) (get_or path k 0 + 1)

@@ -119,14 +119,6 @@ replicate-length : (n : ℕ) → length (replicate n nothing_seen) ≡ n
 replicate-length zero = refl
 replicate-length (suc n) = ap suc (replicate-length n)
 
-pub groups-none : (groups : List Seen) (path : List ℕ) (ranked : List Order) →
-    groups ≡ replicate (next_new path) nothing_seen → GroupsTo groups path ranked 0
-groups-none groups path ranked e = record {
-  count = rw e (replicate-length (next_new path));
-  seen = λ g h. rw (e, replicate-at (next_new path) g) seen-none;
-  light = λ g h. rw (e, replicate-at (next_new path) g) (omega arith);
-}
-
 pub groups-more : (groups : List Seen) (path : List ℕ) (ranked : List Order) (i : ℕ) (d : Order) →
     i < length path → i < length ranked → (get_or ranked i d).weight ≤ 1000000 →
     GroupsTo groups path ranked i →

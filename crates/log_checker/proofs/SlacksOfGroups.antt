@@ -4,11 +4,11 @@
 use Rattle.std.proofs.Common.{ℕ, zero, suc, ◌+◌, ◌*◌, ◌<◌, ◌≤◌, ◌≡◌, ◌⊎◌, Bool, true, false, List}
 use Rattle.std.proofs.Common.{[], ◌∷◌, map, drop, length, get_or, set, eqb, eq-eqb, eqb-true, refl}
 use Rattle.std.proofs.Common.{sym, ap, ◌∙◌, subst, arith, inl, inr, All, ℤ, pos, slice_index, ◌+ℤ◌}
-use Rattle.std.proofs.Common.{◌-◌, ◌++◌, take, ◌&&◌, ◌||◌, ltb, lt-ltb, cond, zero-add, ap₂}
+use Rattle.std.proofs.Common.{◌++◌, take, ◌&&◌, ◌||◌, ltb, lt-ltb, cond, zero-add, ap₂}
 use Rattle.std.proofs.lemmas.Bool.Decides.{nat_tests}
 use Rattle.std.proofs.lemmas.Int.{ints}
 use Rattle.std.proofs.lemmas.List.{take_all, drop_all, drop_more, get_or-set_same, get_or-set_other}
-use Rattle.std.proofs.lemmas.List.{get_or_default, length-map}
+use Rattle.std.proofs.lemmas.List.{length-map}
 use Rattle.std.proofs.lemmas.List.Sorted.{All-permutation, IsPermutation-map}
 use Rattle.mill_model.specs.Instance.{IsOrder}
 use Rattle.mill_model.specs.Plan.{slab}
@@ -27,15 +27,15 @@ use Rattle.least_slacks.specs.Cells.{IsSmall}
 use Rattle.least_slacks.specs.Keys.{AreLeast, HasColours, no_key}
 use Rattle.least_slacks.specs.Limits.{mill_within}
 use Rattle.least_slacks.specs.declared.limits.SlabLimits.{SlabLimits}
-use Rattle.log_checker.specs.Groups.{Seen, IsSeen, AreGroups, nothing_seen}
+use Rattle.log_checker.specs.Groups.{Seen, AreGroups, nothing_seen}
 use Rattle.log_checker.specs.Live.{lives, live_of}
 use Rattle.log_checker.specs.Keys.{IsKey, AreSorted, group_in, key_in}
 use Rattle.log_checker.specs.Slacks.{slack_of, no_live}
 use Rattle.least_slacks.specs.declared.key.Key.{Key}
 use Rattle.log_checker.specs.declared.keys.LiveGroup.{LiveGroup}
-use Rattle.log_checker.proofs.KeyLemmas.{low-from}
-use Rattle.log_checker.proofs.PriceLemmas.{live-fits, seen-once}
-use Rattle.log_checker.proofs.LiveLemmas.{lives-is}
+use Rattle.log_checker.proofs.KeysDecide.{low-from}
+use Rattle.log_checker.proofs.LegalGroups.{live-fits, seen-once}
+use Rattle.log_checker.proofs.LiveGroups.{lives-is}
 use Rattle.log_checker.proofs.Sorted.{times-moved}
 
 -- the groups of the live ones in order
@@ -71,22 +71,6 @@ sorted-lives mill rest groups sorted i it h =
     let u = Among-unfilter (λ g. lives mill rest (get_or groups g nothing_seen)) g
     (below (length groups)) m in
     (below-lt g (length groups) u.0, u.1)
-
--- the live group of a place in order, as an element
-pub live-at : (mill : Mill) (rest : List Order) (groups : List Seen) (sorted : List LiveGroup)
-    (i : ℕ) (live : LiveGroup) → AreSorted mill rest groups sorted → i < length sorted →
-    live ≡ get_or sorted i live →
-    (live.group < length groups)
-    × (lives mill rest (get_or groups live.group nothing_seen) ≡ true)
-    × (live ≡ get_or sorted i no_live)
-live-at mill rest groups sorted i live it h e =
-    let at : live ≡ get_or sorted i no_live = e ∙ get_or_default sorted i live no_live h in
-    let l = sorted-lives mill rest groups sorted i it h in (
-      subst (λ (l : LiveGroup). l.group < length groups) (sym at) l.0,
-      subst (λ (l : LiveGroup). lives mill rest (get_or groups l.group nothing_seen) ≡ true)
-          (sym at) l.1,
-      at,
-    )
 
 pub sorted-keys : (mill : Mill) (rest : List Order) (groups : List Seen)
     (sorted : List LiveGroup) (i : ℕ) → AreSorted mill rest groups sorted → i < length sorted →

@@ -10,7 +10,7 @@ use Rattle.mill_model.proofs.Slabs.{slab-unused}
 use Rattle.list_laws.proofs.Sums.{total-cong}
 use Rattle.list_laws.proofs.Tests.{last-or-below}
 use Rattle.log_checker.specs.Groups.{Seen, nothing_seen, AreGroups}
-use Rattle.log_checker.proofs.GroupLemmas.{unused}
+use Rattle.log_checker.proofs.GroupsOfPath.{unused}
 
 total-more : (m n : ℕ) (f : ℕ → ℕ) → m ≤ n → ((s : ℕ) → m ≤ s → f s ≡ 0) → total n f ≡ total m f
 total-more m zero f l h = let e : m ≡ 0 = omega arith in rw e refl

@@ -28,8 +28,8 @@ use Rattle.log_checker.specs.Keys.{key_order, key_in, group_in, comes_in, IsKey,
 use Rattle.log_checker.specs.Keys.{same_key, same_keys}
 use Rattle.least_slacks.specs.declared.key.Key.{Key}
 use Rattle.log_checker.specs.declared.keys.LiveGroup.{LiveGroup}
-use Rattle.log_checker.proofs.ComingLemmas.{coming-same, same-coming}
-use Rattle.log_checker.proofs.LiveLemmas.{both-ways}
+use Rattle.log_checker.proofs.ComingColours.{coming-same, same-coming}
+use Rattle.log_checker.proofs.LiveGroups.{both-ways}
 use Rattle.log_checker.proofs.Sorted.{InOrder, in-order-from, ordered-same, times-moved}
 
 -- equal truth values from both ways

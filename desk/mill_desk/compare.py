@@ -9,7 +9,7 @@ from mill_desk.bars import Bar, Scale, bars_of, room_of, scale_of
 from mill_desk.console import say
 from mill_desk.numbers import plural, show
 from mill_desk.orders import read_problem
-from mill_desk.output import output_folder
+from mill_desk.output import choose_folder, output_folder
 from mill_desk.page import Fact, subtitle
 from mill_desk.palette import shades
 from mill_desk.plan import Slab, totals_of
@@ -23,6 +23,7 @@ from mill_desk.trouble import Exit
 from mill_desk.wording import Case, Mood, Verdict
 
 COLUMN_CHARACTERS = 52
+COMPARE_FILES = frozenset({'compare.html'})
 
 
 @dataclass(frozen=True)
@@ -65,6 +66,8 @@ class Move:
 
 def compare(program: Program, orders: Path, plans: Sequence[Path], settings: Settings) -> int:
     """Judges both plans, and writes the page that compares them."""
+    folder = choose_folder(settings.out or Path(f'{orders.stem}-compare'), COMPARE_FILES,
+                           [orders, *plans])
     problem = read_problem(orders, settings)
     say(f'Read {what_was_read(problem)}.')
     sides = []
@@ -76,8 +79,7 @@ def compare(program: Program, orders: Path, plans: Sequence[Path], settings: Set
         sides.append(Side(path.name, result))
     first, second = told_apart(sides, plans)
     said = verdict_of(problem, first, second)
-    target = settings.out or Path(f'{orders.stem}-compare')
-    with output_folder(target) as output:
+    with output_folder(folder) as output:
         facts = source_facts(problem)
         facts += [Fact(f'SHA-256 of {path}', hashed(path.read_bytes()), is_code=True)
                   for path in plans]
@@ -85,7 +87,7 @@ def compare(program: Program, orders: Path, plans: Sequence[Path], settings: Set
             compare_page(problem, first, second, said, facts), encoding='utf-8')
         output.publish()
     say(f'{said.headline} {said.text}')
-    say(f'Written to {target / "compare.html"}')
+    say(f'Written to {folder.target / "compare.html"}')
     return Exit.DONE
 
 

@@ -10,7 +10,7 @@ from mill_desk.answer import Answer, plan_answer, read_answer
 from mill_desk.console import say
 from mill_desk.numbers import plural, show_plain
 from mill_desk.orders import read_problem
-from mill_desk.output import Output, output_folder
+from mill_desk.output import Output, choose_folder, output_folder
 from mill_desk.page import Fact, plan_page
 from mill_desk.plan import Slab, loss_in_steps, slabs_of, totals_of
 from mill_desk.plan_table import PlanTable, read_plan
@@ -20,6 +20,10 @@ from mill_desk.search import answer_of, failed, judge, search
 from mill_desk.settings import Settings
 from mill_desk.trouble import DeskFault, Exit, Trouble
 from mill_desk.wording import Verdict, line_sentence
+
+PLAN_FILES = frozenset({'plan.xlsx', 'plan.csv', 'plan.html', 'plan.svg', 'plan.png',
+                        'instance.txt', 'answer.txt'})
+CHECK_FILES = frozenset({'check.html', 'instance.txt', 'answer.txt'})
 
 
 @dataclass(frozen=True)
@@ -40,6 +44,7 @@ class Result:
 
 def plan(program: Program, orders: Path, settings: Settings, prove: bool) -> int:
     """Solves, or proves and verifies; writes the plan."""
+    folder = choose_folder(settings.out or Path(f'{orders.stem}-plan'), PLAN_FILES, [orders])
     problem = read_problem(orders, settings)
     say(f'Read {what_was_read(problem)}.')
     run = search(program, problem, settings, 'prove' if prove else 'solve', say)
@@ -52,8 +57,7 @@ def plan(program: Program, orders: Path, settings: Settings, prove: bool) -> int
     facts = run_facts(program, problem, answer, run, verified)
     result = Result(problem, answer, slabs,
                     verdicts.of_answer(program, problem, answer, verified is not None), facts)
-    target = settings.out or Path(f'{orders.stem}-plan')
-    with output_folder(target) as output:
+    with output_folder(folder) as output:
         left_out = write_plan(output, program, result)
         paths = output.publish()
     if prove and verified is None:
@@ -193,13 +197,14 @@ def digest_facts(program: Program, instance: bytes, answer: bytes) -> list[Fact]
 
 def check(program: Program, orders: Path, plan_path: Path, settings: Settings) -> int:
     """Judges a plan from a table."""
+    folder = choose_folder(settings.out or Path(f'{plan_path.stem}-check'), CHECK_FILES,
+                           [orders, plan_path])
     problem = read_problem(orders, settings)
     say(f'Read {what_was_read(problem)}.')
     table = read_plan(plan_path, problem, settings)
     result, run = judged(program, problem, table)
-    target = settings.out or Path(f'{plan_path.stem}-check')
     heading = f'Check of {table.name}'
-    with output_folder(target) as output:
+    with output_folder(folder) as output:
         left_out = write_check(output, result, heading)
         paths = output.publish()
     tell(result, paths, left_out)

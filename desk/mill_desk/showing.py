@@ -10,7 +10,7 @@ from mill_desk.console import say
 from mill_desk.explain import Texts, complain_of, read_texts
 from mill_desk.log_tree import LogTree
 from mill_desk.numbers import plural
-from mill_desk.output import output_folder
+from mill_desk.output import choose_folder, output_folder
 from mill_desk.page import Fact, plan_page
 from mill_desk.plan import slabs_of
 from mill_desk.planning import digest_facts
@@ -22,7 +22,8 @@ from mill_desk.tree_page import tree_page
 from mill_desk.trouble import DeskFault, Exit, Trouble
 from mill_desk.wording import Case, Verdict, line_sentence, read_line, verdict
 
-
+SHOW_FILES = frozenset({'plan.html', 'plan.svg'})
+TREE_FILES = frozenset({'tree.html'})
 ABOUT_LOGS = ('verified loss L', 'rejected missing k g1 .. gk', 'rejected stray k g1 .. gk',
               'rejected unsound k g1 .. gk')
 
@@ -63,6 +64,8 @@ def judge_texts(program: Program, texts: Texts, settings: Settings) -> Judged:
 
 def show_texts(program: Program, instance: Path, answer: Path, settings: Settings) -> int:
     """The page and the picture of an answer."""
+    folder = choose_folder(settings.out or Path(f'{instance.stem}-plan'), SHOW_FILES,
+                           [instance, answer])
     texts = read_texts(instance, answer)
     judged = judge_texts(program, texts, settings)
     problem, run = judged.problem, judged.run
@@ -71,8 +74,7 @@ def show_texts(program: Program, instance: Path, answer: Path, settings: Setting
     slabs = slabs_of(problem, judged.answer.plan) if judged.answer.plan else []
     said = verdict_of(program, judged)
     further = verdicts.further_lines(problem, slabs)
-    target = settings.out or Path(f'{instance.stem}-plan')
-    with output_folder(target) as output:
+    with output_folder(folder) as output:
         page = plan_page(problem, slabs, said, judged.facts, further=further)
         output.path('plan.html').write_text(page, encoding='utf-8')
         if slabs and all(slab.is_legal for slab in slabs):
@@ -82,7 +84,7 @@ def show_texts(program: Program, instance: Path, answer: Path, settings: Setting
     for line in (said.headline, said.text, *further):
         if line:
             say(line)
-    say(f'Written to {target}: ' + ', '.join(path.name for path in paths))
+    say(f'Written to {folder.target}: ' + ', '.join(path.name for path in paths))
     return run.status
 
 
@@ -103,6 +105,8 @@ def show_tree(program: Program, instance: Path, answer: Path, settings: Settings
     """The tree of the log of an answer."""
     if not rendering.is_installed():
         raise Trouble(Exit.NO_PROGRAM, rendering.NEEDED)
+    folder = choose_folder(settings.out or Path(f'{answer.stem}-tree'), TREE_FILES,
+                           [instance, answer])
     texts = read_texts(instance, answer)
     if texts.command != 'verify':
         raise Trouble(Exit.TABLE, f'{answer.name} has no log; ask for one by prove')
@@ -112,14 +116,13 @@ def show_tree(program: Program, instance: Path, answer: Path, settings: Settings
     tree = LogTree(judged.problem, judged.answer.log, judged.answer.loss)
     said = verdict_of(program, judged)
     refuse_doubt(tree, judged.run)
-    target = settings.out or Path(f'{answer.stem}-tree')
-    with output_folder(target) as output:
+    with output_folder(folder) as output:
         page = tree_page(judged.problem, tree, said, judged.facts)
         output.path('tree.html').write_text(page, encoding='utf-8')
         output.publish()
     say(said.headline)
     say(said.text or line_sentence(judged.run.line))
-    say(f'Written to {target / "tree.html"}')
+    say(f'Written to {folder.target / "tree.html"}')
     return judged.run.status
 
 

@@ -11,7 +11,7 @@ from pathlib import Path
 from mill_desk.console import complain, plain, say
 from mill_desk.numbers import percent, show, show_plain
 from mill_desk.orders import read_problem
-from mill_desk.output import output_folder
+from mill_desk.output import choose_folder, output_folder
 from mill_desk.plan import slabs_of, totals_of
 from mill_desk.planning import recount, verify
 from mill_desk.problem import what_was_read
@@ -22,6 +22,7 @@ from mill_desk.trouble import Exit, WordsTrouble
 from mill_desk.verdicts import of_answer
 from mill_desk.wording import Case
 
+WHAT_IF_FILES = frozenset({'what-if.csv'})
 HEADERS = ('sizes', 'colours a slab', 'loss', 'of the steel', 'slabs', 'what is proved', 'seconds')
 PROVED = {
     Case.OPTIMAL: 'no legal plan loses less',
@@ -75,6 +76,7 @@ def what_if(program: Program, orders: Path, settings: Settings, sizes: Sequence[
     """Prints a row for each variant as it comes; with --out also writes what-if.csv."""
     variants = [Variant(added, limit) for added in read_added(sizes)
                 for limit in read_limits(limits, settings.colours_per_slab)]
+    folder = None if settings.out is None else choose_folder(settings.out, WHAT_IF_FILES, [orders])
     problem = read_problem(orders, settings)
     say(f'Read {what_was_read(problem)}.')
     if not program.is_ours:
@@ -85,12 +87,12 @@ def what_if(program: Program, orders: Path, settings: Settings, sizes: Sequence[
         row = row_of(program, orders, settings, variant, prove)
         rows.append(row)
         print_row(row)
-    if settings.out is not None:
-        with output_folder(settings.out) as output:
+    if folder is not None:
+        with output_folder(folder) as output:
             with output.path('what-if.csv').open('w', newline='', encoding='utf-8-sig') as stream:
                 csv.writer(stream).writerows([[plain(cell) for cell in row] for row in rows])
             output.publish()
-        say(f'Written to {settings.out / "what-if.csv"}')
+        say(f'Written to {folder.target / "what-if.csv"}')
     return Exit.DONE
 
 

@@ -142,6 +142,11 @@ class InFolder(unittest.TestCase):
         path.write_bytes(content if isinstance(content, bytes) else content.encode())
         return path
 
+    def held(self, name: str) -> dict[str, bytes]:
+        """The files of a folder inside, by their names."""
+        return {path.name: path.read_bytes() for path in (self.folder / name).iterdir()
+                if path.is_file()}
+
     def script(self, name: str, body: str) -> Path:
         """Writes a program into the folder, in Python."""
         path = self.write(name, f'#!{sys.executable}\n{body}')

@@ -4,7 +4,6 @@ import csv
 import io
 
 from mill_desk import rendering, workbook
-from mill_desk.program import hashed
 from tests.support import (EXAMPLES, STAND_IN, InFolder, desk, each, needs, spread,
                            working_in)
 
@@ -95,19 +94,12 @@ class Plans(InFolder):
 
     def test_a_second_run_takes_the_place_of_the_first(self) -> None:
         self.plan('--prove')
-        (self.folder / 'plan' / 'compare.html').write_text('of an earlier run')
+        (self.folder / 'plan' / 'plan.png').write_text('of an earlier run')
         self.plan()
-        self.assertFalse((self.folder / 'plan' / 'compare.html').exists())
+        self.assertNotEqual(self.held('plan').get('plan.png'), b'of an earlier run')
         self.assertNotIn('log', (self.folder / 'plan' / 'answer.txt').read_text())
         self.assertEqual(sorted(entry.name for entry in self.folder.iterdir()),
                          ['orders.csv', 'plan'])
-
-    def test_the_user_s_workbook_is_never_written_to(self) -> None:
-        before = hashed((EXAMPLES / 'orders.csv').read_bytes())
-        outcome = desk('plan', EXAMPLES / 'orders.csv', '--nodes', '50', '--out',
-                       self.folder / 'plan')
-        self.assertEqual(outcome.status, 4)
-        self.assertEqual(hashed((EXAMPLES / 'orders.csv').read_bytes()), before)
 
     @needs('openpyxl')
     def test_text_that_begins_with_an_equals_sign_is_text_in_the_workbook(self) -> None:
@@ -134,6 +126,58 @@ FAULTS: dict[str, tuple[str, str]] = {
     'no column of slabs': ('Order;Where\nA;1\n', 'row 1: no column is headed as the slab; name it '
                            'by --slab "HEADER"; the headers are: "Order", "Where"'),
 }
+
+
+@spread
+class Inputs(InFolder):
+    """Whatever a command reads stays as it is, also where it is named as a file of the desk."""
+
+    @each({
+        'plan': ('plan', 'plan.csv'),
+        'check, the orders': ('check', 'plan.csv', 'other/two.csv'),
+        'check, the plan': ('check', 'other/orders.csv', 'two.csv'),
+        'compare': ('compare', 'other/orders.csv', 'plan.csv', 'other/two.csv'),
+        'what-if': ('what-if', 'what-if.csv'),
+        'show': ('show', 'instance.txt', 'answer.txt'),
+        'tree': ('tree', 'instance.txt', 'answer.txt'),
+        'show, the answer alone': ('show', 'other/instance.txt', 'answer.txt'),
+        'a link': ('plan', 'other/link.csv'),
+    })
+    def test_a_target_that_holds_an_input_is_refused(self, words: tuple[str, ...]) -> None:
+        command, *inputs = words
+        texts = {'instance.txt': '1 4\n3\n3\n1 1\n1 2\n2 3\n',
+                 'answer.txt': 'optimal\nloss 4\nplan 3 1 3\nlog 1 1\nS 0\nend\n',
+                 'two.csv': CHECKED.format(1, 2, 1)}
+        (self.folder / 'other').mkdir()
+        for name in inputs:
+            if name == 'other/link.csv':
+                self.write('plan.csv', SHEET)
+                (self.folder / name).symlink_to(self.folder / 'plan.csv')
+            else:
+                self.write(name, texts.get(name.removeprefix('other/'), SHEET))
+        sizes = () if command in ('show', 'tree') else ('--sizes', '12; 13')
+        self.assert_refused('which this command reads', command, *inputs, *sizes)
+
+    def test_a_file_of_another_command_is_refused_too(self) -> None:
+        orders = self.write('plan.csv', SHEET)
+        (self.folder / 'other').mkdir()
+        self.write('other/compare.html', 'mine')
+        outcome = desk('plan', orders, '--sizes', '13', '--out', self.folder / 'other')
+        self.assertEqual((outcome.status, self.held('other')), (2, {'compare.html': b'mine'}))
+        self.assertIn('the folder holds other files (compare.html)', outcome.err)
+
+    @needs('openpyxl')
+    def test_the_user_s_workbook_is_never_written_to(self) -> None:
+        (self.folder / 'plan.xlsx').write_bytes((EXAMPLES / 'orders.xlsx').read_bytes())
+        self.assert_refused('which this command reads', 'plan', 'plan.xlsx', '--sizes', '36')
+
+    def assert_refused(self, message: str, *words: str) -> None:
+        """Runs a command whose target is this folder: it is refused, and nothing is changed."""
+        before = self.held('.')
+        with working_in(self.folder):
+            outcome = desk(*words, '--out', '.')
+        self.assertIn(message, outcome.err)
+        self.assertEqual((outcome.status, self.held('.')), (2, before))
 
 
 @spread

@@ -319,6 +319,7 @@ def read_all(terminal: int) -> str:
         shown += piece
 
 
+@spread
 class Writing(InFolder):
     """Where the system refuses to write."""
 
@@ -336,6 +337,21 @@ class Writing(InFolder):
         self.assertEqual((outcome.status, outcome.err), (
             6, 'desk: plan.csv: No space left on device\n'))
         self.assertEqual([entry.name for entry in self.folder.iterdir()], ['orders.csv'])
+
+    @each({number.name: number for number in (signal.SIGINT, signal.SIGTERM, signal.SIGHUP)})
+    def test_a_signal_while_files_are_put_in_place_waits(self, number: signal.Signals) -> None:
+        path, put = self.write('orders.csv', SHEET), os.replace
+
+        def ended(source: Path, target: Path) -> None:
+            """Sends the signal before each file."""
+            os.kill(os.getpid(), number)
+            put(source, target)
+
+        with mock.patch('os.replace', side_effect=ended):
+            outcome = desk('plan', path, '--sizes', '13', '--out', self.folder / 'plan')
+        self.assertEqual((outcome.status, outcome.err), (130, 'desk: stopped\n'))
+        self.assertLessEqual({'plan.csv', 'instance.txt', 'answer.txt'}, self.held('plan').keys())
+        self.assertEqual({entry.name for entry in self.folder.iterdir()}, {'orders.csv', 'plan'})
 
     def test_any_other_fault_of_the_desk(self) -> None:
         path = self.write('orders.csv', SHEET)

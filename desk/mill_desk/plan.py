@@ -73,6 +73,11 @@ def loss_in_steps(problem: Problem, plan: Sequence[int]) -> int | None:
     return None if None in charges else sum(charge for charge in charges if charge is not None)
 
 
+def is_heavy_in_steps(problem: Problem, slab: Slab) -> bool:
+    """Whether no size holds the load in the numbers that the program was given."""
+    return problem.charge(sum(order.steps for order in slab.orders)) is None
+
+
 @dataclass(frozen=True)
 class Totals:
     """The sums of a plan, in the unit of the table."""

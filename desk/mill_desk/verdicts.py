@@ -5,10 +5,10 @@ from fractions import Fraction
 
 from mill_desk.answer import Answer, Kind
 from mill_desk.numbers import plural, show
-from mill_desk.plan import Slab, totals_of
+from mill_desk.plan import Slab, is_heavy_in_steps, totals_of
 from mill_desk.problem import Order, Problem
 from mill_desk.program import Program, Run
-from mill_desk.wording import ROUNDED, Case, Verdict, read_line, verdict
+from mill_desk.wording import HEAVY_IN_ROUNDED, ROUNDED, Case, Verdict, read_line, verdict
 
 MOST_LISTED = 30
 
@@ -66,7 +66,7 @@ def of_check(program: Program, problem: Problem, run: Run, slabs: Sequence[Slab]
         return verdict(Case.HEAVY, who, rounded, slab=slab.name,
                        top=problem.amount_of_steps(problem.size_steps[-1]),
                        weight=problem.amount_of_steps(said.number('W')),
-                       rows=orders_of(problem, slab, rows))
+                       where=where_heavy(problem, slabs), rows=orders_of(problem, slab, rows))
     if said.form == 'rejected colourful slab S colours C':
         slab = by_number[said.number('S')]
         return verdict(Case.COLOURFUL, who, slab=slab.name, colours=said.values['C'],
@@ -75,6 +75,16 @@ def of_check(program: Program, problem: Problem, run: Run, slabs: Sequence[Slab]
         return verdict(Case.LOSS, who, rounded, stated=problem.amount_of_steps(said.number('A')),
                        loss=problem.amount_of_steps(said.number('B')))
     return verdict(Case.OTHER, who, sentence=said.sentence, line=run.line)
+
+
+def where_heavy(problem: Problem, slabs: Sequence[Slab]) -> str:
+    """In which numbers a plan with a heavy slab isn't legal; '' where nothing was rounded."""
+    if not problem.rounded:
+        return ''
+    wrong = sum(not slab.is_legal for slab in slabs)
+    counted = 'every slab is legal' if not wrong else \
+        f'{plural(wrong, "slab")} {"is" if wrong == 1 else "are"}n\'t legal either'
+    return HEAVY_IN_ROUNDED.format(step=problem.amount(problem.step), counted=counted)
 
 
 def orders_of(problem: Problem, slab: Slab, rows: dict[str, int]) -> str:
@@ -99,9 +109,11 @@ def further_lines(problem: Problem, slabs: Sequence[Slab]) -> list[str]:
     wrong = [slab for slab in slabs if not slab.is_legal]
     if len(wrong) > 1:
         listed = ', '.join(f'{slab.name} ({why_illegal(problem, slab)})' for slab in wrong)
-        lines.append(f'The desk\'s own count finds {len(wrong)} slabs that aren\'t legal: '
-                     f'{listed}.')
-    if problem.rounded and not wrong:
+        numbers = ' in the table\'s own numbers' if problem.rounded else ''
+        lines.append(f'The desk\'s own count finds {len(wrong)} slabs that aren\'t legal'
+                     f'{numbers}: {listed}.')
+    heavy = any(is_heavy_in_steps(problem, slab) for slab in slabs)
+    if problem.rounded and not wrong and not heavy:
         lines.append(ROUNDED.format(step=problem.amount(problem.step),
                                     true=problem.amount(totals_of(slabs).loss)))
     return lines

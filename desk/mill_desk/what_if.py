@@ -24,6 +24,10 @@ from mill_desk.wording import Case
 
 WHAT_IF_FILES = frozenset({'what-if.csv'})
 HEADERS = ('sizes', 'colours a slab', 'loss', 'of the steel', 'slabs', 'what is proved', 'seconds')
+ROUNDED_HEADER = 'rounded loss'
+WIDTHS = {'sizes': 16, 'colours a slab': 14, 'loss': 10, ROUNDED_HEADER: 12, 'of the steel': 12,
+          'slabs': 6, 'what is proved': 50, 'seconds': 8}
+AT_LEFT = ('sizes', 'what is proved')
 PROVED = {
     Case.OPTIMAL: 'no legal plan loses less',
     Case.VERIFIED: 'no legal plan loses less; the proof was verified',
@@ -81,12 +85,13 @@ def what_if(program: Program, orders: Path, settings: Settings, sizes: Sequence[
     say(f'Read {what_was_read(problem)}.')
     if not program.is_ours:
         say(f'{program.name} answers; nothing is claimed for it.')
-    rows: list[tuple[str, ...]] = [HEADERS]
-    print_row(HEADERS)
+    headers = headers_of(problem.rounded)
+    rows = [headers]
+    print_row(headers, headers)
     for variant in variants:
         row = row_of(program, orders, settings, variant, prove)
         rows.append(row)
-        print_row(row)
+        print_row(headers, row)
     if folder is not None:
         with output_folder(folder) as output:
             with output.path('what-if.csv').open('w', newline='', encoding='utf-8-sig') as stream:
@@ -94,6 +99,11 @@ def what_if(program: Program, orders: Path, settings: Settings, sizes: Sequence[
             output.publish()
         say(f'Written to {folder.target / "what-if.csv"}')
     return Exit.DONE
+
+
+def headers_of(rounded: bool) -> tuple[str, ...]:
+    """The headers; where numbers were rounded, what is lost in these stands beside the loss."""
+    return (*HEADERS[:3], ROUNDED_HEADER, *HEADERS[3:]) if rounded else HEADERS
 
 
 def row_of(program: Program, orders: Path, settings: Settings, variant: Variant,
@@ -110,14 +120,16 @@ def row_of(program: Program, orders: Path, settings: Settings, variant: Variant,
     case = of_answer(program, problem, answer, answer.log is not None).case
     sums = totals_of(slabs)
     proved = PROVED[case] if program.is_ours else f'the program says {answer.kind.value}'
-    return (variant.sizes, str(variant.limit), show_plain(sums.loss),
-            percent(sums.loss, sums.steel), str(sums.slabs), proved, f'{run.seconds:.2f}')
+    losses = [show_plain(sums.loss)]
+    if problem.rounded:
+        losses.append(show_plain(answer.loss * problem.step))
+        proved = f'in the rounded numbers: {proved}'
+    return (variant.sizes, str(variant.limit), *losses, percent(sums.loss, sums.steel),
+            str(sums.slabs), proved, f'{run.seconds:.2f}')
 
 
-def print_row(row: Sequence[str]) -> None:
+def print_row(headers: Sequence[str], row: Sequence[str]) -> None:
     """A row in columns."""
-    widths = (16, 14, 10, 12, 6, 50, 8)
-    turned = (False, True, True, True, True, False, True)
-    cells = [cell.rjust(width) if right else cell.ljust(width)
-             for cell, width, right in zip(row, widths, turned, strict=True)]
+    cells = [cell.ljust(WIDTHS[header]) if header in AT_LEFT else cell.rjust(WIDTHS[header])
+             for header, cell in zip(headers, row, strict=True)]
     print('  '.join(plain(cell) for cell in cells).rstrip(), file=sys.stdout, flush=True)

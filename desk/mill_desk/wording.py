@@ -141,7 +141,7 @@ VERDICTS: dict[Case, tuple[Mood, str, str]] = {
         'This was judged by check. It says nothing of other plans: a better one may exist.'),
     Case.HEAVY: (
         Mood.FAULT, 'Slab {slab} weighs {weight}, more than {top}.',
-        'So the plan isn\'t legal. Its orders: {rows}.'),
+        'So the plan isn\'t legal{where}. Its orders: {rows}.'),
     Case.COLOURFUL: (
         Mood.FAULT, 'Slab {slab} has {colours} colours; at most {limit} may share a slab.',
         'So the plan isn\'t legal. Its orders: {rows}.'),
@@ -164,6 +164,9 @@ OF_OTHERS: dict[Case, tuple[str, str]] = {
 NO_CLAIM = ('That program wasn\'t built by ./mill_slab, so nothing is claimed for it. The desk '
             'has counted loads, colours and loss anew from the table.')
 IN_ROUNDED = 'In the rounded numbers: '
+# Where a slab is too heavy in the rounded numbers: what the desk counts in the table's own.
+HEAVY_IN_ROUNDED = (' in the rounded numbers (weights up, sizes down, in steps of {step}); in the '
+                    'table\'s own numbers {counted}')
 ROUNDED = ('Weights were rounded up and sizes down to steps of {step}. Every claim but the plan\''
            's legality is about the rounded numbers; in the true ones the plan loses {true}.')
 

@@ -2,8 +2,11 @@
 
 import csv
 import io
+from fractions import Fraction
 
-from mill_desk import rendering, workbook
+from mill_desk import rendering, what_if, workbook
+from mill_desk.program import Program
+from mill_desk.settings import Settings
 from tests.support import (EXAMPLES, STAND_IN, InFolder, desk, each, needs, spread,
                            working_in)
 
@@ -227,7 +230,27 @@ class Checks(InFolder):
     def test_a_slab_that_is_heavy_in_rounded_numbers_alone(self) -> None:
         status, said = self.check(CHECKED.format(1, 2, 1), '--step', '5', '--round-up')
         self.assertEqual(status, 8)
-        self.assertIn('In the rounded numbers: slab 1 weighs 15 t, more than 10 t.', said)
+        self.assertIn('In the rounded numbers: slab 1 weighs 15 t, more than 10 t. So the plan '
+                      'isn\'t legal in the rounded numbers (weights up, sizes down, in steps of '
+                      '5 t); in the table\'s own numbers every slab is legal. Its orders: ', said)
+        self.assertNotIn('Every claim but', said)
+
+    def test_a_slab_that_is_heavy_in_both_numbers(self) -> None:
+        status, said = self.check(CHECKED.format(1, 1, 1), '--step', '5', '--round-up')
+        self.assertEqual(status, 8)
+        self.assertIn('in the table\'s own numbers 1 slab isn\'t legal either. Its orders', said)
+
+    def test_a_tenth_that_rounding_makes_too_heavy(self) -> None:
+        orders = self.write('orders.csv', 'Order,Weight t,Colour\nA,5.6,red\nB,6.1,red\n')
+        plan = self.write('mine.csv', 'Order,Slab\nA,1\nB,1\n')
+        words = ('--sizes', '12', '--step', '1', '--round-up')
+        for command in (('check', orders, plan), ('compare', orders, plan, plan)):
+            outcome = desk(*command, *words, '--out', self.folder / command[0])
+            self.assertEqual((outcome.status, outcome.err), (8, ''))
+            self.assertIn('weighs 13 t, more than 12 t. So the plan isn\'t legal in the rounded '
+                          'numbers (weights up, sizes down, in steps of 1 t); in the table\'s own '
+                          'numbers every slab is legal.', outcome.out)
+            self.assertNotIn('the plan\'s legality', outcome.out)
 
     def test_the_example_with_a_fault(self) -> None:
         outcome = desk('check', EXAMPLES / 'orders.csv', EXAMPLES / 'plan-with-a-fault.csv',
@@ -304,6 +327,22 @@ class Others(InFolder):
             ['as given', '2', '4', '16.67%', '2', 'the program says optimal'],
             ['8 added', '1', '0', '0.00%', '2', 'the program says optimal'],
             ['8 added', '2', '0', '0.00%', '2', 'the program says optimal']])
+
+    def test_what_if_in_rounded_numbers_has_both_losses(self) -> None:
+        path = self.write('orders.csv', 'Order,Weight,Colour\nA,6.4,red\nB,5.3,red\n')
+        outcome = desk('what-if', path, '--sizes', '13', '--step', '1', '--round-up', '--out',
+                       self.folder / 'what-if')
+        self.assertEqual((outcome.status, outcome.err), (0, ''))
+        text = (self.folder / 'what-if' / 'what-if.csv').read_text('utf-8-sig')
+        header, row = csv.reader(text.splitlines())
+        self.assertEqual(header[2:4] + header[6:7], ['loss', 'rounded loss', 'what is proved'])
+        self.assertEqual(row[2:4] + row[6:7], ['1.3', '0', 'in the rounded numbers: the program '
+                                               'says optimal'])
+        ours = Program(STAND_IN, STAND_IN, is_ours=True)
+        settings = Settings(sizes='13', step=Fraction(1), round_up=True)
+        row = what_if.row_of(ours, path, settings, what_if.Variant((), 2), prove=False)
+        self.assertEqual(row[2:4] + row[6:7], ('1.3', '0', 'in the rounded numbers: loses nothing, '
+                                               'so none is better'))
 
     def test_what_if_with_wrong_words(self) -> None:
         path = self.write('orders.csv', SHEET)

@@ -5,6 +5,7 @@ from dataclasses import dataclass
 from fractions import Fraction
 from os.path import commonprefix
 
+from mill_desk.answer import Answer, Kind
 from mill_desk.problem import Order, Problem
 
 
@@ -71,6 +72,30 @@ def loss_in_steps(problem: Problem, plan: Sequence[int]) -> int | None:
         loads[slab] = loads.get(slab, 0) + order.steps
     charges = [problem.charge(load) for load in loads.values()]
     return None if None in charges else sum(charge for charge in charges if charge is not None)
+
+
+def check_line(problem: Problem, answer: Answer) -> str:
+    """The line that `check` is expected to write of an answer, counted anew."""
+    if answer.kind is Kind.INFEASIBLE:
+        heavy = problem.heavy_orders()
+        first = problem.orders.index(heavy[0]) + 1 if heavy else 0
+        return (f'confirmed infeasible order {first}' if first == answer.order else
+                f'rejected order stated {answer.order} found {first}')
+    loads: dict[int, int] = {}
+    colours: dict[int, set[int]] = {}
+    for order, slab in zip(problem.orders, answer.plan, strict=True):
+        loads[slab] = loads.get(slab, 0) + order.steps
+        colours.setdefault(slab, set()).add(order.colour)
+    loss = 0
+    for slab, load in sorted(loads.items()):
+        charge = problem.charge(load)
+        if charge is None:
+            return f'rejected heavy slab {slab} load {load}'
+        if len(colours[slab]) > problem.limit:
+            return f'rejected colourful slab {slab} colours {len(colours[slab])}'
+        loss += charge
+    return (f'legal loss {loss}' if loss == answer.loss else
+            f'rejected loss stated {answer.loss} found {loss}')
 
 
 def is_heavy_in_steps(problem: Problem, slab: Slab) -> bool:

@@ -219,14 +219,11 @@ def judged(program: Program, problem: Problem, table: PlanTable) -> tuple[Result
     run = judge(program, problem, 'check', text)
     if run.status not in (0, 8):
         raise failed(run)
-    legal = counted is not None and not any(slab.is_colourful for slab in slabs)
-    if legal != (run.status == 0) or (legal and run.line != f'legal loss {counted}'):
-        raise DeskFault(f'its own count finds the plan {"" if legal else "not "}legal with a loss '
-                        f'of {counted} steps, and check said: {run.line}')
     rows = {order.id: row for order, row in zip(problem.orders, table.rows, strict=True)}
     answer = read_answer(text, len(problem.orders))
     if answer is None:
         raise DeskFault('it can\'t read the answer that it wrote')
+    verdicts.refuse_other_count(problem, answer, run)
     facts = source_facts(problem) + [
         Fact('plan', table.name),
         Fact('check it again', f'cat instance.txt answer.txt | {shlex.quote(program.name)} check '

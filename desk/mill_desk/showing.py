@@ -24,8 +24,6 @@ from mill_desk.wording import Case, Verdict, line_sentence, read_line, verdict
 
 SHOW_FILES = frozenset({'plan.html', 'plan.svg'})
 TREE_FILES = frozenset({'tree.html'})
-ABOUT_LOGS = ('verified loss L', 'rejected missing k g1 .. gk', 'rejected stray k g1 .. gk',
-              'rejected unsound k g1 .. gk')
 
 
 @dataclass(frozen=True)
@@ -54,6 +52,7 @@ def judge_texts(program: Program, texts: Texts, settings: Settings) -> Judged:
     answer = read_answer(texts.answer_text, len(problem.orders))
     if answer is None:
         raise DeskFault('it can\'t read an answer that the program read')
+    verdicts.refuse_other_count(problem, answer, run)
     facts = [Fact('texts', f'{texts.instance_name}, {texts.answer_name}'),
              Fact('check it again', f'cat {shlex.quote(texts.instance_name)} '
                   f'{shlex.quote(texts.answer_name)} | {shlex.quote(program.name)} '
@@ -95,7 +94,7 @@ def verdict_of(program: Program, judged: Judged) -> Verdict:
     slabs = slabs_of(judged.problem, judged.answer.plan) if judged.answer.plan else []
     made = verdicts.of_check(program, judged.problem, judged.run, slabs, {})
     if made.case is Case.VERIFIED:
-        return verdict(Case.VERIFIED, verdicts.speaker(program),
+        return verdict(Case.VERIFIED, verdicts.speaker(program, judged.problem),
                        loss=judged.problem.amount(judged.answer.loss),
                        records=plural(len(judged.answer.log or ()), 'record'))
     return made
@@ -129,7 +128,7 @@ def show_tree(program: Program, instance: Path, answer: Path, settings: Settings
 def refuse_doubt(tree: LogTree, run: Run) -> None:
     """Ends the command where the desk's own reading of the log differs from `verify`'s."""
     line = read_line(run.line)
-    about_log = line is not None and line.form in ABOUT_LOGS
+    about_log = line is not None and line.form in verdicts.ABOUT_LOGS
     unclear = any(tree.is_sound(record) is None for record in tree.records.values())
     if about_log and not unclear and tree.verify_line() != run.line:
         raise DeskFault(f'it reads the log as {tree.verify_line()}, and verify said: {run.line}')

@@ -5,17 +5,22 @@ from fractions import Fraction
 
 from mill_desk.answer import Answer, Kind
 from mill_desk.numbers import plural, show
-from mill_desk.plan import Slab, is_heavy_in_steps, totals_of
+from mill_desk.plan import Slab, check_line, is_heavy_in_steps, totals_of
 from mill_desk.problem import Order, Problem
 from mill_desk.program import Program, Run
-from mill_desk.wording import HEAVY_IN_ROUNDED, ROUNDED, Case, Verdict, read_line, verdict
+from mill_desk.trouble import DeskFault
+from mill_desk.wording import HEAVY_IN_ROUNDED, ROUNDED, Case, Speaker, Verdict, read_line, verdict
 
 MOST_LISTED = 30
+ACCEPTED = ('legal loss L', 'verified loss L', 'confirmed infeasible order I')
+ABOUT_LOGS = ('verified loss L', 'rejected missing k g1 .. gk', 'rejected stray k g1 .. gk',
+              'rejected unsound k g1 .. gk')
 
 
-def speaker(program: Program) -> str | None:
-    """The name of a program of which nothing is claimed; None for the one that is ours."""
-    return None if program.is_ours else program.name
+def speaker(program: Program, problem: Problem) -> Speaker | None:
+    """A program for which nothing is claimed; None for the one that is ours."""
+    source = ' from the table' if problem.headers else ''
+    return None if program.is_ours else Speaker(program.name, source)
 
 
 def of_answer(program: Program, problem: Problem, answer: Answer, is_verified: bool) -> Verdict:
@@ -26,7 +31,7 @@ def of_answer(program: Program, problem: Problem, answer: Answer, is_verified: b
         case = Case.FEASIBLE
     else:
         case = Case.VERIFIED if is_verified else Case.OPTIMAL
-    return verdict(case, speaker(program), problem.rounded,
+    return verdict(case, speaker(program, problem), problem.rounded,
                    loss=problem.amount_of_steps(answer.loss),
                    spent=plural(answer.spent, 'node'),
                    records=plural(len(answer.log or ()), 'record'))
@@ -37,7 +42,7 @@ def of_infeasible(program: Program, problem: Problem) -> Verdict:
     heavy = problem.heavy_orders()
     first = heavy[0]
     listed = [f'{named(order)} {problem.amount(order.weight)}' for order in heavy]
-    return verdict(Case.INFEASIBLE, speaker(program), first=f'Order {named(first)}',
+    return verdict(Case.INFEASIBLE, speaker(program, problem), first=f'Order {named(first)}',
                    weight=problem.amount(first.weight), top=problem.amount(problem.sizes[-1]),
                    all=some_of(listed, '; '))
 
@@ -52,7 +57,7 @@ def of_check(program: Program, problem: Problem, run: Run, slabs: Sequence[Slab]
     """The verdict of `check` or `verify` on a plan; `rows` are the rows of the plan's orders."""
     said = read_line(run.line)
     by_number = {slab.number: slab for slab in slabs}
-    who, rounded = speaker(program), problem.rounded
+    who, rounded = speaker(program, problem), problem.rounded
     if said is None:
         return verdict(Case.OTHER, sentence=f'The program says: {run.line}', line=run.line)
     if said.form in ('legal loss L', 'verified loss L'):
@@ -85,6 +90,27 @@ def where_heavy(problem: Problem, slabs: Sequence[Slab]) -> str:
     counted = 'every slab is legal' if not wrong else \
         f'{plural(wrong, "slab")} {"is" if wrong == 1 else "are"}n\'t legal either'
     return HEAVY_IN_ROUNDED.format(step=problem.amount(problem.step), counted=counted)
+
+
+def refuse_other_count(problem: Problem, answer: Answer, run: Run) -> None:
+    """Ends the command where the desk counts otherwise than `check` or `verify` says.
+
+    A line that is in no table is shown as it is, but not where it accepts what the desk doesn't.
+    """
+    counted, said = check_line(problem, answer), read_line(run.line)
+    is_good = not counted.startswith('rejected')
+    agrees = is_good or run.status != 0
+    if said is not None:
+        agrees &= (said.form in ACCEPTED) == (run.status == 0)
+        if said.form == 'verified loss L':
+            agrees &= said.number('L') == answer.loss
+        elif said.form in ABOUT_LOGS:
+            agrees &= is_good
+        else:
+            agrees &= run.line == counted
+    if not agrees:
+        raise DeskFault(f'its own count comes to "{counted}"; {run.words[0]} ended with status '
+                        f'{run.status} and said: {run.line}')
 
 
 def orders_of(problem: Problem, slab: Slab, rows: dict[str, int]) -> str:

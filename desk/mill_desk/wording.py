@@ -161,8 +161,9 @@ OF_OTHERS: dict[Case, tuple[str, str]] = {
     Case.NO_LOSS: ('The plan loses nothing, so none is better.', ''),
     Case.LEGAL: ('{program} says that the plan is legal and loses {loss}.', ''),
 }
-NO_CLAIM = ('That program wasn\'t built by ./mill_slab, so nothing is claimed for it. The desk '
-            'has counted loads, colours and loss anew from the table.')
+NO_CLAIM = 'That program wasn\'t built by ./mill_slab, so nothing is claimed for it.'
+COUNTED = 'The desk has counted loads, colours and loss anew{source}.'
+COMPARED = 'The desk has compared each weight with the largest size itself.'
 IN_ROUNDED = 'In the rounded numbers: '
 # Where a slab is too heavy in the rounded numbers: what the desk counts in the table's own.
 HEAVY_IN_ROUNDED = (' in the rounded numbers (weights up, sizes down, in steps of {step}); in the '
@@ -181,19 +182,30 @@ class Verdict:
     text: str
 
 
-def verdict(case: Case, program: str | None = None, rounded: bool = False,
+@dataclass(frozen=True)
+class Speaker:
+    """Another program than the one that `./mill_slab` built; nothing is claimed for it.
+
+    `source` is what the desk counted its plan from, such as ` from the table`.
+    """
+
+    name: str
+    source: str = ''
+
+
+def verdict(case: Case, speaker: Speaker | None = None, rounded: bool = False,
             **values: str) -> Verdict:
-    """The words of a case; `program` names another program than the one `./mill_slab` built.
+    """The words of a case; `speaker` is None for the program that `./mill_slab` built.
 
     Where weights were rounded the headline is about the rounded numbers.
     """
     mood, headline, text = VERDICTS[case]
-    if program is not None and case in OF_OTHERS:
-        headline, text = OF_OTHERS[case]
-        text = f'{text} {NO_CLAIM}'.strip()
-    elif program is not None:
-        text = f'{text} {program} said so. {NO_CLAIM}'
-    values['program'] = program or ''
+    values['program'] = speaker.name if speaker else ''
+    if speaker is not None:
+        counted = COMPARED if case is Case.INFEASIBLE else COUNTED.format(source=speaker.source)
+        said = '' if case in OF_OTHERS else '{program} said so. '
+        headline, text = OF_OTHERS.get(case, (headline, text))
+        text = f'{text} {said}{NO_CLAIM} {counted}'.strip()
     if rounded:
         headline = IN_ROUNDED + headline[0].lower() + headline[1:]
     return Verdict(case, mood, headline.format(**values), text.format(**values))

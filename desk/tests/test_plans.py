@@ -292,6 +292,51 @@ class Compares(InFolder):
         self.assertFalse((self.folder / 'compare').exists())
 
 
+# Plan and loss, or the order of an infeasible answer; what the program says of it; its status.
+LIES: dict[str, tuple[str, str, int]] = {
+    'a heavy slab is legal': ('loss 7\nplan 1 1 1 1 1', 'legal loss 7', 0),
+    'a colourful slab is legal': ('loss 1\nplan 1 2 2 3 4', 'legal loss 1', 0),
+    'another loss than stated': ('loss 7\nplan 1 2 3 4 5', 'legal loss 14', 0),
+    'another loss than counted': ('loss 7\nplan 1 2 3 4 5', 'legal loss 7', 0),
+    'an order that isn\'t heavy': ('order 2', 'confirmed infeasible order 2', 0),
+    'an unknown line that accepts': ('loss 7\nplan 1 1 1 1 1', 'fine', 0),
+    'a rejection that accepts': ('loss 7\nplan 1 1 1 1 1', 'rejected heavy slab 1 load 14', 0),
+    'another load': ('loss 7\nplan 1 1 1 1 1', 'rejected heavy slab 1 load 15', 8),
+    'a legal slab is heavy': ('loss 21\nplan 1 2 3 4 5', 'rejected heavy slab 1 load 9', 8),
+    'a stated loss that is right': ('loss 21\nplan 1 2 3 4 5', 'rejected loss stated 21 found 20',
+                                    8),
+}
+
+
+@spread
+@needs('jinja2')
+class Lies(InFolder):
+    """`desk show` and `desk tree` with a program that lies of a plan: five orders, size 7."""
+
+    @each(LIES)
+    def test_show(self, row: tuple[str, str, int]) -> None:
+        self.assert_fault('show', '', *row)
+
+    @each({key: row for key, row in LIES.items() if row[0].startswith('loss')})
+    def test_tree(self, row: tuple[str, str, int]) -> None:
+        plan, line, status = row
+        self.assert_fault('tree', 'log 1 1\nL 5 1 1 1 1 1\n', plan,
+                          line.replace('legal', 'verified'), status)
+
+    def assert_fault(self, command: str, log: str, plan: str, line: str, status: int) -> None:
+        """Runs the command; it ends as a fault, and nothing is written."""
+        head = 'infeasible' if plan.startswith('order') else 'optimal'
+        instance = self.write('five.txt', '1 7\n5\n5\n3 1\n3 2\n3 3\n3 4\n2 5\n')
+        answer = self.write('answer.txt', f'{head}\n{plan}\n{log}end\n')
+        other = self.script('other', f'import sys\nsys.stdin.read()\nprint({line!r})\n'
+                            f'sys.exit({status})\n')
+        outcome = desk(command, instance, answer, '--colours-per-slab', '1', '--out',
+                       self.folder / 'out', program_path=other)
+        self.assertEqual(outcome.status, 70, outcome)
+        self.assertIn(f'and said: {line}', outcome.err)
+        self.assertFalse((self.folder / 'out').exists())
+
+
 class Others(InFolder):
     """`desk show`, `desk what-if` and `desk table`."""
 
@@ -301,7 +346,9 @@ class Others(InFolder):
         answer = self.write('answer.txt', 'optimal\nloss 4\nplan 3 1 3\nend\n')
         outcome = desk('show', instance, answer, '--out', self.folder / 'shown')
         self.assertEqual((outcome.status, outcome.err), (0, ''))
-        self.assertIn('says that the plan is legal and loses 4.', outcome.out)
+        self.assertIn('says that the plan is legal and loses 4. That program wasn\'t built by '
+                      './mill_slab, so nothing is claimed for it. The desk has counted loads, '
+                      'colours and loss anew. Written', outcome.out)
         names = sorted(entry.name for entry in (self.folder / 'shown').iterdir())
         self.assertEqual(names, ['plan.html', 'plan.svg'])
 
@@ -313,6 +360,8 @@ class Others(InFolder):
         self.assertEqual(outcome.status, 0)
         self.assertIn('Order 1 weighs 5, more than the largest size 4. So there is no legal plan. '
                       'Heavier than the largest size: 1 5; 3 9.', outcome.out)
+        self.assertIn('The desk has compared each weight with the largest size itself.',
+                      outcome.out)
 
     def test_what_if(self) -> None:
         path = self.write('orders.csv', SHEET)

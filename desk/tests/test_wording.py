@@ -4,8 +4,8 @@ import re
 import unittest
 from pathlib import Path
 
-from mill_desk.wording import (LINES, OF_OTHERS, STATUSES, VERDICTS, Case, line_sentence,
-                               pattern_of, read_line, status_sentence, verdict)
+from mill_desk.wording import (LINES, OF_OTHERS, STATUSES, VERDICTS, Case, Speaker,
+                               line_sentence, pattern_of, read_line, status_sentence, verdict)
 from tests.support import TOP, each, spread
 
 PAGE = TOP / 'docs' / 'formats.md'
@@ -98,7 +98,7 @@ class Sentences(unittest.TestCase):
 
 
 VALUES = {'loss': '4 t', 'spent': '7 nodes', 'records': '8 records', 'first': 'Order A',
-          'weight': '9 t', 'top': '8 t', 'all': 'A 9 t', 'slab': 'B', 'rows': 'row 2',
+          'where': '', 'weight': '9 t', 'top': '8 t', 'all': 'A 9 t', 'slab': 'B', 'rows': 'row 2',
           'colours': '3', 'limit': '2 colours', 'stated': '3 t', 'sentence': 'It says x.',
           'line': 'x'}
 CLAIMS = ('theorem', 'proved')
@@ -110,7 +110,7 @@ class Verdicts(unittest.TestCase):
 
     @each({case.value: case for case in Case})
     def test_nothing_is_claimed_for_another_program(self, case: Case) -> None:
-        said = verdict(case, '/x/other', **VALUES)
+        said = verdict(case, Speaker('/x/other'), **VALUES)
         for claim in CLAIMS:
             self.assertNotIn(claim, said.headline + said.text)
         self.assertIn('/x/other', said.headline + said.text

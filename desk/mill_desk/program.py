@@ -196,8 +196,7 @@ def needs_building(top: Path, binary: Path) -> str | None:
 
 def changed_source(top: Path, listed: list[str]) -> str | None:
     """The first source that isn't as in a list of lines of `cksum`, in words."""
-    names = [str(source.relative_to(top)) for source in sources(top)
-             if source.name in SOURCE_NAMES or source.suffix in SOURCE_ENDS]
+    names = [str(source.relative_to(top)) for source in sources(top)]
     now = subprocess.run(['cksum', *names], cwd=top, capture_output=True, text=True, check=False)
     changed = set(listed).symmetric_difference(now.stdout.splitlines())
     if not changed:
@@ -207,11 +206,12 @@ def changed_source(top: Path, listed: list[str]) -> str | None:
 
 
 def sources(top: Path) -> list[Path]:
-    """The files that the program is built from, and those beside them."""
+    """The files that `./mill_slab` counts as what the program is built from."""
     found = [top / name for name in SOURCE_NAMES if (top / name).exists()]
     for folder, inside, files in os.walk(top / 'crates'):
         inside[:] = [name for name in inside if name != 'out']
-        found += [Path(folder) / name for name in files]
+        found += [Path(folder) / name for name in files
+                  if name in SOURCE_NAMES or name.endswith(SOURCE_ENDS)]
     return found
 
 

@@ -11,7 +11,7 @@ from unittest import mock
 
 from mill_desk.program import find_program
 from mill_desk.trouble import Trouble
-from tests.support import DESK, STAND_IN, InFolder, desk, each, launched, needs, spread
+from tests.support import DESK, STAND_IN, TOP, InFolder, desk, each, launched, needs, spread
 
 SHEET = 'Order,Weight,Colour\nA,7,red\nB,8,blue\nC,5,red\n'
 SLEEPER = '''import os, sys, time
@@ -100,6 +100,7 @@ sys.exit(subprocess.run([{str(STAND_IN)!r}] + sys.argv[1:]).returncode)
         self.assertIn('doesn\'t serve --workers 2 yet; leave it out.', outcome.err)
 
 
+@spread
 class Finding(InFolder):
     """Which program is run, and that the desk starts no proof."""
 
@@ -139,6 +140,38 @@ class Finding(InFolder):
             find_program(None, top)
         self.assertEqual(caught.exception.status, 126)
         self.assertIn('The program is older than ', str(caught.exception))
+
+    @each({name: name for name in ('must-fail/one.edit', 'proof_notes.md', 'src/old.rt.orig')})
+    def test_a_later_file_that_is_no_source_does_not_matter(self, name: str) -> None:
+        top = self.repository()
+        self.build(2000)
+        path = top / 'crates' / 'mill_slab' / name
+        path.parent.mkdir(exist_ok=True)
+        path.write_text('x')
+        self.assertTrue(find_program(None, top).is_ours)
+        self.assertEqual(self.why_build(top), '')
+
+    @each({name: name for name in ('crates/mill_slab/src/main.rt', 'crates.txt', 'HANDLES',
+                                   'crates/new/proofs/a.antt')})
+    def test_a_later_source_is_named_as_the_wrapper_names_it(self, name: str) -> None:
+        top = self.repository()
+        self.build(2000)
+        path = top / name
+        path.parent.mkdir(parents=True, exist_ok=True)
+        path.write_text('x')
+        with self.assertRaises(Trouble) as caught:
+            find_program(None, top)
+        self.assertIn(f'The program is older than {name}.', str(caught.exception))
+        self.assertEqual(self.why_build(top), f'{name} is newer than the program\n')
+
+    def why_build(self, top: Path) -> str:
+        """What the repository's own ./mill_slab says of that folder; '' where it builds nothing."""
+        script = (TOP / 'mill_slab').read_text()
+        functions = script[:script.index('\nreason=')].replace('$(CDPATH=', f'{top} #$(CDPATH=')
+        done = subprocess.run(['/bin/sh', '-c', functions + '\nwhy_build'], text=True,
+                              capture_output=True, check=False)
+        self.assertEqual(done.stderr, '')
+        return done.stdout
 
     def test_a_program_that_is_built_is_run_through_the_wrapper(self) -> None:
         top = self.repository()

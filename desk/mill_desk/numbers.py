@@ -1,7 +1,8 @@
 """Exact numbers: a text of a table read as a fraction, and a fraction written as a decimal.
 
-No sum and no comparison in the desk is made with floats. A text such as `1.200` is 1.2 or 1200
-according to the decimal mark, so the mark is decided once for a whole column.
+No sum and no comparison of amounts is made with floats, nor of the lengths that stand for them in a
+picture. A text such as `1.200` is 1.2 or 1200 according to the decimal mark, so the mark is decided
+once for a whole column.
 """
 
 import math

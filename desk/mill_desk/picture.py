@@ -1,12 +1,14 @@
 """The picture of a plan: an SVG of 16:9 for a slide, slabs side by side.
 
-Past sixty slabs those that lose most are drawn, and the rest are told by size and count.
+Past sixty slabs those that lose most are drawn, and the rest are told by size and count. Pixels are
+fractions, and only the finished places and lengths are written as decimals.
 """
 
 import shutil
 import subprocess
 from collections.abc import Sequence
 from dataclasses import dataclass
+from fractions import Fraction
 from pathlib import Path
 
 from mill_desk.numbers import percent, plural, show
@@ -19,7 +21,11 @@ from mill_desk.wording import Mood, Verdict
 WIDTH, HEIGHT = 1600, 900
 LEFT, RIGHT, HEAD = 88, 30, 134
 MOST_SLABS = 60
-WIDEST = 240.0
+WIDEST = Fraction(240)
+# The pixels of a character: on a block and in the key; and its width by its height in a name.
+ON_BLOCK, IN_KEY, IN_NAME = Fraction(79, 10), Fraction(94, 10), Fraction(5, 8)
+# From the middle of a text to its base line.
+BASE = Fraction(46, 10)
 MOST_ROWS = 20
 
 
@@ -80,20 +86,19 @@ class Frame:
         """The line that slabs stand on."""
         return HEIGHT - self.bottom
 
-    def height(self, value: object) -> float:
+    def height(self, value: Fraction) -> Fraction:
         """The pixels of an amount."""
-        top = self.problem.sizes[-1]
-        return float(value / top) * (self.foot - HEAD)  # type: ignore[operator]
+        return value / self.problem.sizes[-1] * (self.foot - HEAD)
 
     @property
-    def pitch(self) -> float:
+    def pitch(self) -> Fraction:
         """From one slab to the next."""
-        return min(WIDEST, (WIDTH - LEFT - self.right) / max(1, self.count))
+        return min(WIDEST, Fraction(WIDTH - LEFT - self.right, max(1, self.count)))
 
     @property
-    def width(self) -> float:
+    def width(self) -> Fraction:
         """Of a slab."""
-        return self.pitch - max(1.0, min(12.0, self.pitch * 0.16))
+        return self.pitch - max(Fraction(1), min(Fraction(12), self.pitch * Fraction(4, 25)))
 
 
 def slide(problem: Problem, slabs: Sequence[Slab], verdict: Verdict) -> str:
@@ -119,6 +124,11 @@ def slide(problem: Problem, slabs: Sequence[Slab], verdict: Verdict) -> str:
                   rest=rest_of(problem, rest), rest_count=len(rest), foot=frame.foot)
 
 
+def pixels(value: Fraction) -> str:
+    """A place or a length as the picture has it."""
+    return f'{float(value):.1f}'
+
+
 def clipped(text: str, most: int) -> str:
     """The text, cut where it would run out of the picture."""
     return text if len(text) <= most else text[:most - 2] + '..'
@@ -127,12 +137,12 @@ def clipped(text: str, most: int) -> str:
 def lines_of(frame: Frame) -> list[Line]:
     """The sizes, the largest first; a text that would touch the one above is left out."""
     lines: list[Line] = []
-    last = None
+    last: Fraction | None = None
     for size in reversed(frame.problem.sizes):
         y = frame.foot - frame.height(size)
         has_room = last is None or y - last > 18
         last = y if has_room else last
-        lines.append(Line(f'{y:.1f}', show(size) if has_room else ''))
+        lines.append(Line(pixels(y), show(size) if has_room else ''))
     return lines
 
 
@@ -142,7 +152,7 @@ def blocks_of(frame: Frame, slabs: Sequence[Slab]) -> list[Block]:
     short = short_names([order.id for order in problem.orders])
     blocks = []
     for place, slab in enumerate(slabs):
-        x, y = LEFT + place * frame.pitch, float(frame.foot)
+        x, y = LEFT + place * frame.pitch, Fraction(frame.foot)
         for order in slab.orders:
             high = frame.height(order.weight)
             y -= high
@@ -156,21 +166,20 @@ def blocks_of(frame: Frame, slabs: Sequence[Slab]) -> list[Block]:
     return blocks
 
 
-def block(frame: Frame, x: float, y: float, high: float, fill: str, tip: str, label: str = '',
-          is_upright: bool = False) -> Block:
+def block(frame: Frame, x: Fraction, y: Fraction, high: Fraction, fill: str, tip: str,
+          label: str = '', is_upright: bool = False) -> Block:
     """A block with its text in the middle."""
-    turn = (4.6, 0.0) if is_upright else (0.0, 4.6)
-    return Block(f'{x:.1f}', f'{y:.1f}', f'{frame.width:.1f}', f'{high:.1f}', fill, tip, label,
-                 is_upright, f'{x + frame.width / 2 + turn[0]:.1f}',
-                 f'{y + high / 2 + turn[1]:.1f}')
+    right, down = (BASE, 0) if is_upright else (0, BASE)
+    return Block(pixels(x), pixels(y), pixels(frame.width), pixels(high), fill, tip, label,
+                 is_upright, pixels(x + frame.width / 2 + right), pixels(y + high / 2 + down))
 
 
-def label_of(frame: Frame, high: float, texts: Sequence[str]) -> tuple[str, bool]:
+def label_of(frame: Frame, high: Fraction, texts: Sequence[str]) -> tuple[str, bool]:
     """The longest text that has room, and whether it stands upright."""
     for text in texts:
-        if high > 15 and frame.width > 7.9 * len(text) + 4:
+        if high > 15 and frame.width > ON_BLOCK * len(text) + 4:
             return text, False
-        if frame.width > 13 and high > 7.9 * len(text) + 6:
+        if frame.width > 13 and high > ON_BLOCK * len(text) + 6:
             return text, True
     return '', False
 
@@ -178,10 +187,10 @@ def label_of(frame: Frame, high: float, texts: Sequence[str]) -> tuple[str, bool
 def names_of(frame: Frame, slabs: Sequence[Slab]) -> list[Name]:
     """The names of the slabs, where they all have room."""
     longest = max((len(slab.name) for slab in slabs), default=1)
-    points = min(14, int(1.6 * frame.pitch / longest))
+    points = min(14, int(frame.pitch / (IN_NAME * longest)))
     if points < 8:
         return []
-    return [Name(f'{LEFT + place * frame.pitch + frame.width / 2:.1f}', slab.name, points)
+    return [Name(pixels(LEFT + place * frame.pitch + frame.width / 2), slab.name, points)
             for place, slab in enumerate(slabs)]
 
 
@@ -192,7 +201,7 @@ def key_of(problem: Problem) -> list[Entry]:
     x, y = LEFT - 8, 0
     for fill, text in [*((tint[colour], name) for colour, name in problem.colours.items()),
                        ('url(#lost)', 'lost')]:
-        wide = 50 + int(9.4 * len(text))
+        wide = 50 + int(IN_KEY * len(text))
         if x + wide > WIDTH - RIGHT and x > LEFT:
             x, y = LEFT - 8, y + 1
         entries.append(Entry(x, y, fill, text))

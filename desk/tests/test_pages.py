@@ -120,6 +120,14 @@ class Pictures(unittest.TestCase):
         self.assertIn('and 40 slabs that lose less', text)
         self.assertIn('>40 of 9</text>', text)
 
+    def test_sizes_that_are_just_too_near_have_one_text(self) -> None:
+        from mill_desk.picture import HEAD, Frame, lines_of
+        for top, size in ((677, 529), (677, 514), (500, 400)):
+            sizes = (Fraction(size - 18), Fraction(size), Fraction(top))
+            frame = Frame(Problem('x', (), {}, sizes, 2), 900 - HEAD - top, 30, 3)
+            self.assertEqual(frame.height(sizes[0]) + 18, frame.height(sizes[1]))
+            self.assertEqual([line.text for line in lines_of(frame)], [str(top), str(size), ''])
+
     def test_nothing_runs_out_of_the_picture(self) -> None:
         text = self.picture(100)
         for x, wide in re.findall(r'<rect x="([\d.]+)" y="[\d.]+" width="([\d.]+)"', text):

@@ -14,16 +14,19 @@ from mill_desk.page import Fact, subtitle
 from mill_desk.palette import shades
 from mill_desk.plan import Slab, totals_of
 from mill_desk.plan_table import read_plan
-from mill_desk.planning import Result, judged, source_facts
+from mill_desk.planning import (Result, again_fact, digest_facts, judged, place_fact,
+                                source_facts)
 from mill_desk.problem import Problem, what_was_read
 from mill_desk.program import Program, hashed
 from mill_desk.rendering import render
 from mill_desk.settings import Settings
 from mill_desk.trouble import Exit
-from mill_desk.wording import Case, Mood, Verdict
+from mill_desk.verdicts import speaker
+from mill_desk.wording import Case, Verdict, verdict
 
 COLUMN_CHARACTERS = 52
-COMPARE_FILES = frozenset({'compare.html'})
+ANSWERS = ('answer-1.txt', 'answer-2.txt')
+COMPARE_FILES = frozenset({'compare.html', 'instance.txt', *ANSWERS})
 
 
 @dataclass(frozen=True)
@@ -78,17 +81,32 @@ def compare(program: Program, orders: Path, plans: Sequence[Path], settings: Set
             return Exit.REJECTED
         sides.append(Side(path.name, result))
     first, second = told_apart(sides, plans)
-    said = verdict_of(problem, first, second)
+    said = verdict_of(program, problem, first, second)
     with output_folder(folder) as output:
-        facts = source_facts(problem)
-        facts += [Fact(f'SHA-256 of {path}', hashed(path.read_bytes()), is_code=True)
-                  for path in plans]
+        texts = {'instance.txt': problem.instance_text(),
+                 **{name: side.result.answer.text
+                    for name, side in zip(ANSWERS, (first, second), strict=True)}}
+        for name, text in texts.items():
+            output.path(name).write_text(text, encoding='ascii')
+        facts = facts_of(program, problem, (first, second), plans, folder.target)
+        facts += digest_facts(program, texts)
         output.path('compare.html').write_text(
             compare_page(problem, first, second, said, facts), encoding='utf-8')
         output.publish()
     say(f'{said.headline} {said.text}')
     say(f'Written to {folder.target / "compare.html"}')
     return Exit.DONE
+
+
+def facts_of(program: Program, problem: Problem, sides: Sequence[Side], plans: Sequence[Path],
+             target: Path) -> list[Fact]:
+    """Where the values come from, the plans' files, and the commands that judge them again."""
+    facts = source_facts(problem)
+    facts += [Fact(f'SHA-256 of {path}', hashed(path.read_bytes()), is_code=True)
+              for path in plans]
+    facts.append(place_fact(program, target))
+    return facts + [again_fact(program, problem, answer=answer, name=side.name)
+                    for side, answer in zip(sides, ANSWERS, strict=True)]
 
 
 def told_apart(sides: Sequence[Side], plans: Sequence[Path]) -> tuple[Side, Side]:
@@ -99,7 +117,7 @@ def told_apart(sides: Sequence[Side], plans: Sequence[Path]) -> tuple[Side, Side
     return Side(str(plans[0]), first.result), Side(str(plans[1]), second.result)
 
 
-def verdict_of(problem: Problem, first: Side, second: Side) -> Verdict:
+def verdict_of(program: Program, problem: Problem, first: Side, second: Side) -> Verdict:
     """Which plan loses less."""
     less = first.loss - second.loss
     headline = 'Both lose the same.'
@@ -108,8 +126,8 @@ def verdict_of(problem: Problem, first: Side, second: Side) -> Verdict:
         headline = f'{better.name} loses {problem.amount(abs(less))} less.'
     parts = [f'{side.name}: {problem.amount(side.loss)} on '
              f'{plural(len(side.result.slabs), "slab")}.' for side in (first, second)]
-    return Verdict(Case.LEGAL, Mood.SETTLED, headline,
-                   ' '.join(parts) + ' Both plans were judged legal by check.')
+    return verdict(Case.COMPARED, speaker(program, problem), better=headline,
+                   losses=' '.join(parts))
 
 
 def compare_page(problem: Problem, first: Side, second: Side, said: Verdict,

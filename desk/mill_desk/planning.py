@@ -1,7 +1,7 @@
 """`desk plan`, `desk check` and `desk show`: from an answer to files that were checked twice."""
 
 import shlex
-from collections.abc import Sequence
+from collections.abc import Mapping, Sequence
 from dataclasses import dataclass
 from pathlib import Path
 
@@ -54,7 +54,7 @@ def plan(program: Program, orders: Path, settings: Settings, prove: bool) -> int
     verified = verify(program, problem, answer) if answer.log is not None else None
     slabs = slabs_of(problem, answer.plan)
     recount(problem, answer, slabs)
-    facts = run_facts(program, problem, answer, run, verified)
+    facts = run_facts(program, problem, answer, run, verified, folder.target)
     result = Result(problem, answer, slabs,
                     verdicts.of_answer(program, problem, answer, verified is not None), facts)
     with output_folder(folder) as output:
@@ -160,20 +160,33 @@ def tell(result: Result, paths: Sequence[Path], left_out: Sequence[str]) -> None
 
 
 def run_facts(program: Program, problem: Problem, answer: Answer, run: Run,
-              verified: Run | None) -> list[Fact]:
+              verified: Run | None, target: Path) -> list[Fact]:
     """How the plan was found, where each value came from, and the commands that repeat it."""
     facts = source_facts(problem)
-    words = ' '.join(run.words)
-    command = 'verify' if verified is not None else 'check'
-    name = shlex.quote(program.name)
     facts.append(Fact('found in', f'{run.seconds:.2f} s'
                       + (f', verified in {verified.seconds:.2f} s' if verified else '')))
-    facts.append(Fact('repeat it', f'{name} {words} < instance.txt > answer.txt', is_code=True))
-    facts.append(Fact('check it again', f'cat instance.txt answer.txt | {name} {command} '
-                      f'--colours {problem.limit}', is_code=True))
+    facts.append(place_fact(program, target))
+    facts.append(Fact('repeat it', f'{shlex.quote(program.name)} {" ".join(run.words)} '
+                      '< "$DIR/instance.txt" > "$DIR/answer.txt"', is_code=True))
+    facts.append(again_fact(program, problem, 'verify' if verified is not None else 'check'))
     missing = [f'{word} ({use})' for word, use in NOT_SERVED.items()]
     facts.append(Fact('not used', f'{", ".join(missing)}: the desk doesn\'t call these yet'))
-    return facts + digest_facts(program, problem.instance_text().encode(), answer.text.encode())
+    return facts + digest_facts(program, {'instance.txt': problem.instance_text(),
+                                          'answer.txt': answer.text})
+
+
+def place_fact(program: Program, target: Path) -> Fact:
+    """Where the commands run that repeat a run: no folder holds the program and its texts."""
+    place = 'run them in the folder that holds ./mill_slab, and ' if program.is_ours else ''
+    return Fact('the commands', f'{place}set DIR to the folder of this page (it was written to '
+                f'{target})')
+
+
+def again_fact(program: Program, problem: Problem, command: str = 'check',
+               answer: str = 'answer.txt', name: str = 'it') -> Fact:
+    """The command that judges an answer again."""
+    return Fact(f'check {name} again', f'cat "$DIR/instance.txt" "$DIR/{answer}" | '
+                f'{shlex.quote(program.name)} {command} --colours {problem.limit}', is_code=True)
 
 
 def source_facts(problem: Problem) -> list[Fact]:
@@ -185,14 +198,14 @@ def source_facts(problem: Problem) -> list[Fact]:
     return facts + [Fact('one step', f'{problem.amount(problem.step)}: {rounding}')]
 
 
-def digest_facts(program: Program, instance: bytes, answer: bytes) -> list[Fact]:
-    """The digests of what the run rests on."""
+def digest_facts(program: Program, texts: Mapping[str, str | bytes]) -> list[Fact]:
+    """The program, and the digests of what the run rests on: the program and texts by name."""
     named = f'{program.name} ' + ('(proved and built by it)' if program.is_ours else
                                   '(nothing is claimed for it)')
     return [Fact('program', named),
             Fact('SHA-256 of the program', program.sha256(), is_code=True),
-            Fact('SHA-256 of instance.txt', hashed(instance), is_code=True),
-            Fact('SHA-256 of answer.txt', hashed(answer), is_code=True)]
+            *(Fact(f'SHA-256 of {name}', hashed(text), is_code=True)
+              for name, text in texts.items())]
 
 
 def check(program: Program, orders: Path, plan_path: Path, settings: Settings) -> int:
@@ -203,6 +216,7 @@ def check(program: Program, orders: Path, plan_path: Path, settings: Settings) -
     say(f'Read {what_was_read(problem)}.')
     table = read_plan(plan_path, problem, settings)
     result, run = judged(program, problem, table)
+    result.facts.extend(check_facts(program, result, table.name, folder.target))
     heading = f'Check of {table.name}'
     with output_folder(folder) as output:
         left_out = write_check(output, result, heading)
@@ -224,13 +238,16 @@ def judged(program: Program, problem: Problem, table: PlanTable) -> tuple[Result
     if answer is None:
         raise DeskFault('it can\'t read the answer that it wrote')
     verdicts.refuse_other_count(problem, answer, run)
-    facts = source_facts(problem) + [
-        Fact('plan', table.name),
-        Fact('check it again', f'cat instance.txt answer.txt | {shlex.quote(program.name)} check '
-             f'--colours {problem.limit}', is_code=True),
-        *digest_facts(program, problem.instance_text().encode(), text.encode())]
     return Result(problem, answer, slabs, verdicts.of_check(program, problem, run, slabs, rows),
-                  facts), run
+                  source_facts(problem)), run
+
+
+def check_facts(program: Program, result: Result, name: str, target: Path) -> list[Fact]:
+    """The plan's file, the command that judges it again, and the digests."""
+    problem = result.problem
+    return [Fact('plan', name), place_fact(program, target), again_fact(program, problem),
+            *digest_facts(program, {'instance.txt': problem.instance_text(),
+                                    'answer.txt': result.answer.text})]
 
 
 def write_check(output: Output, result: Result, heading: str) -> list[str]:

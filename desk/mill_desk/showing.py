@@ -1,6 +1,7 @@
 """`desk show` and `desk tree`: pages for the program's own texts."""
 
 import shlex
+from collections.abc import Sequence
 from dataclasses import dataclass
 from pathlib import Path
 
@@ -54,11 +55,19 @@ def judge_texts(program: Program, texts: Texts, settings: Settings) -> Judged:
         raise DeskFault('it can\'t read an answer that the program read')
     verdicts.refuse_other_count(problem, answer, run)
     facts = [Fact('texts', f'{texts.instance_name}, {texts.answer_name}'),
-             Fact('check it again', f'cat {shlex.quote(texts.instance_name)} '
-                  f'{shlex.quote(texts.answer_name)} | {shlex.quote(program.name)} '
-                  + ' '.join(words), is_code=True),
-             *digest_facts(program, texts.instance, texts.answer)]
+             Fact('check it again', again_command(program, texts, words), is_code=True),
+             *digest_facts(program, {texts.instance_name: texts.instance,
+                                     texts.answer_name: texts.answer})]
     return Judged(problem, answer, run, facts)
+
+
+def again_command(program: Program, texts: Texts, words: Sequence[str]) -> str:
+    """What judges the texts again; it runs anywhere, or for `./mill_slab` in the folder of it."""
+    paths = [shlex.quote(str(Path(name).absolute()))
+             for name in (texts.instance_name, texts.answer_name)]
+    is_whole = texts.joined == texts.instance + texts.answer
+    both = f'cat {" ".join(paths)}' if is_whole else f'(cat {paths[0]}; echo; cat {paths[1]})'
+    return f'{both} | {shlex.quote(program.name)} {" ".join(words)}'
 
 
 def show_texts(program: Program, instance: Path, answer: Path, settings: Settings) -> int:

@@ -100,6 +100,7 @@ class Case(Enum):
     NO_LOSS = 'no loss'
     INFEASIBLE = 'infeasible'
     LEGAL = 'legal'
+    COMPARED = 'compared'
     HEAVY = 'heavy'
     COLOURFUL = 'colourful'
     LOSS = 'loss'
@@ -139,6 +140,10 @@ VERDICTS: dict[Case, tuple[Mood, str, str]] = {
     Case.LEGAL: (
         Mood.OPEN, 'The plan is legal. It loses {loss}.',
         'This was judged by check. It says nothing of other plans: a better one may exist.'),
+    Case.COMPARED: (
+        Mood.OPEN, '{better}',
+        '{losses} Both plans were judged legal by check. It says nothing of other plans: a better '
+        'one may exist.'),
     Case.HEAVY: (
         Mood.FAULT, 'Slab {slab} weighs {weight}, more than {top}.',
         'So the plan isn\'t legal{where}. Its orders: {rows}.'),
@@ -160,6 +165,7 @@ OF_OTHERS: dict[Case, tuple[str, str]] = {
                     '{program} says that its budget of {spent} was spent.'),
     Case.NO_LOSS: ('The plan loses nothing, so none is better.', ''),
     Case.LEGAL: ('{program} says that the plan is legal and loses {loss}.', ''),
+    Case.COMPARED: ('{better}', '{losses} {program} says that both plans are legal.'),
 }
 NO_CLAIM = 'That program wasn\'t built by ./mill_slab, so nothing is claimed for it.'
 COUNTED = 'The desk has counted loads, colours and loss anew{source}.'

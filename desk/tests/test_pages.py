@@ -1,8 +1,10 @@
 """The pages and the picture as texts: what stands in them, and what doesn't."""
 
 import re
+import subprocess
 import unittest
 from fractions import Fraction
+from html import unescape
 from html.parser import HTMLParser
 
 from mill_desk.palette import hue
@@ -59,12 +61,27 @@ class Pages(InFolder):
 
     def test_it_ends_with_commands_and_digests(self) -> None:
         page = self.page()
-        for part in ('solve --colours 2 --nodes 100 &lt; instance.txt &gt; answer.txt',
-                     'check --colours 2', 'SHA-256 of the program', 'SHA-256 of instance.txt',
+        folder = '&#34;$DIR/{}.txt&#34;'.format
+        for part in ('set DIR to the folder of this page (it was written to ',
+                     f'solve --colours 2 --nodes 100 &lt; {folder("instance")} &gt; '
+                     + folder('answer'), 'check --colours 2', 'SHA-256 of the program', 'SHA-256 of instance.txt',
                      'SHA-256 of answer.txt', '(desk.toml)', 'colours per slab',
                      'nothing was rounded'):
             self.assertIn(part, page)
         self.assertEqual(len(re.findall(r'<code>[0-9a-f]{64}</code>', page)), 3)
+
+    def test_its_commands_run_where_the_program_and_the_folder_are(self) -> None:
+        page = self.page()
+        commands = [unescape(text) for text in re.findall(r'<code>([^<]* --[^<]*)</code>', page)]
+        self.assertEqual(len(commands), 2)
+        before = self.held('plan')
+        for command, status in zip(commands, (4, 0), strict=True):
+            done = subprocess.run(['/bin/sh', '-c', command], capture_output=True, text=True,
+                                  env={'DIR': str(self.folder / 'plan'), 'PATH': '/usr/bin:/bin'},
+                                  cwd='/', check=False)
+            self.assertEqual((done.returncode, done.stderr), (status, ''))
+        self.assertEqual(done.stdout, 'legal loss 43\n')
+        self.assertEqual(self.held('plan'), before)
 
     def test_hostile_ids_and_colours_and_titles_are_text(self) -> None:
         quoted = HOSTILE.replace('"', '""')

@@ -2,18 +2,27 @@
 
 import csv
 import io
+import subprocess
 from fractions import Fraction
+from html import unescape
 
 from mill_desk import rendering, what_if, workbook
-from mill_desk.program import Program
+from mill_desk.answer import Answer, Kind
+from mill_desk.columns import Column
+from mill_desk.compare import Side, verdict_of
+from mill_desk.planning import Result
+from mill_desk.problem import Problem
+from mill_desk.program import Program, hashed
 from mill_desk.settings import Settings
+from mill_desk.wording import Case, Mood, Verdict, verdict
 from tests.support import (EXAMPLES, STAND_IN, InFolder, desk, each, needs, spread,
                            working_in)
 
 SHEET = 'Order,Weight t,Colour\nA,7,red\nB,8,blue\nC,5,red\n'
 CHECKED = 'Order;Slab\nA;{}\nB;{}\nC;{}\n'
-OTHER = (f'{STAND_IN} said so. That program wasn\'t built by ./mill_slab, so nothing is claimed '
-         'for it. The desk has counted loads, colours and loss anew from the table.')
+NO_CLAIM = ('That program wasn\'t built by ./mill_slab, so nothing is claimed for it. The desk has '
+            'counted loads, colours and loss anew from the table.')
+OTHER = f'{STAND_IN} said so. {NO_CLAIM}'
 
 
 class Plans(InFolder):
@@ -277,9 +286,33 @@ class Compares(InFolder):
         status, said = self.compare(CHECKED.format(1, 2, 3), CHECKED.format('a', 'b', 'a'))
         self.assertEqual(status, 0)
         self.assertIn('two.csv loses 12 t less. one.csv: 16 t on 3 slabs. two.csv: 4 t on 2 '
-                      'slabs. Both plans were judged legal by check.', said)
+                      f'slabs. {STAND_IN} says that both plans are legal. {NO_CLAIM}', said)
         page = (self.folder / 'compare' / 'compare.html').read_text()
         self.assertIn('1 slab the same in both, 2 orders on slabs that differ', page)
+
+    def test_its_page_ends_as_every_page(self) -> None:
+        self.compare(CHECKED.format(1, 2, 3), CHECKED.format('a', 'b', 'a'))
+        page = (self.folder / 'compare' / 'compare.html').read_text()
+        self.assertIn('class="verdict open"', page)
+        self.assertIn('so nothing is claimed for it', page.partition('<h2>')[0])
+        files = self.held('compare')
+        self.assertEqual(files['answer-2.txt'], b'feasible\nloss 4\nplan 1 2 1\nspent 0\nend\n')
+        for name in ('instance.txt', 'answer-1.txt', 'answer-2.txt'):
+            self.assertIn(f'<dt>SHA-256 of {name}</dt><dd><code>{hashed(files[name])}</code>', page)
+        for part in (f'<dt>program</dt><dd>{STAND_IN} (nothing is claimed for it)',
+                     '<dt>SHA-256 of the program</dt>', '<dt>check one.csv again</dt>',
+                     f'$DIR/answer-2.txt&#34; | {STAND_IN} check --colours 2</code>'):
+            self.assertIn(part, page)
+
+    def test_with_the_program_of_the_repository(self) -> None:
+        problem = Problem('x', (), {}, (Fraction(4),), 2, headers={Column.ID: 'a'})
+        ours = verdict_of(Program(STAND_IN, STAND_IN, is_ours=True), problem, *(
+            Side(name, Result(problem, Answer(Kind.FEASIBLE, ''), [], verdict(Case.NO_LOSS), []))
+            for name in ('one', 'two')))
+        self.assertEqual(ours, Verdict(
+            Case.COMPARED, Mood.OPEN, 'Both lose the same.', 'one: 0 on 0 slabs. two: 0 on 0 '
+            'slabs. Both plans were judged legal by check. It says nothing of other plans: a '
+            'better one may exist.'))
 
     def test_the_same(self) -> None:
         _, said = self.compare(CHECKED.format(1, 2, 1), CHECKED.format('a', 'b', 'a'))
@@ -351,6 +384,21 @@ class Others(InFolder):
                       'colours and loss anew. Written', outcome.out)
         names = sorted(entry.name for entry in (self.folder / 'shown').iterdir())
         self.assertEqual(names, ['plan.html', 'plan.svg'])
+
+    @needs('jinja2')
+    def test_the_command_that_judges_the_texts_again(self) -> None:
+        for end in ('\n', ''):
+            self.write('three.txt', f'1 4\n3\n3\n1 1\n1 2\n2 3{end}')
+            self.write('an answer.txt', 'optimal\nloss 4\nplan 3 1 3\nend\n')
+            with working_in(self.folder):
+                outcome = desk('show', 'three.txt', 'an answer.txt', '--out', 'shown')
+            self.assertEqual((outcome.status, outcome.err), (0, ''))
+            page = (self.folder / 'shown' / 'plan.html').read_text()
+            command = unescape(page.partition('<dt>check it again</dt><dd><code>')[2]
+                               .partition('</code>')[0])
+            done = subprocess.run(['/bin/sh', '-c', command], capture_output=True, text=True,
+                                  cwd='/', check=False)
+            self.assertEqual((done.stdout, done.stderr), ('legal loss 4\n', ''))
 
     @needs('jinja2')
     def test_show_of_an_infeasible_answer_names_every_heavy_order(self) -> None:

@@ -100,7 +100,7 @@ class Sentences(unittest.TestCase):
 VALUES = {'loss': '4 t', 'spent': '7 nodes', 'records': '8 records', 'first': 'Order A',
           'where': '', 'weight': '9 t', 'top': '8 t', 'all': 'A 9 t', 'slab': 'B', 'rows': 'row 2',
           'colours': '3', 'limit': '2 colours', 'stated': '3 t', 'sentence': 'It says x.',
-          'line': 'x'}
+          'line': 'x', 'better': 'A loses less.', 'losses': 'A: 1. B: 2.'}
 CLAIMS = ('theorem', 'proved')
 
 

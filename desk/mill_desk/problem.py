@@ -9,6 +9,7 @@ import re
 from collections.abc import Sequence
 from dataclasses import dataclass, field
 from fractions import Fraction
+from unicodedata import decimal
 
 from mill_desk.columns import Column
 from mill_desk.numbers import plural, show
@@ -98,10 +99,14 @@ class Problem:
 
 
 def natural_key(text: str) -> tuple[tuple[tuple[int, int, str], ...], str]:
-    """A key that puts R2 before R10."""
-    parts = re.split(r'(\d+)', text.casefold())
-    return tuple((0, int(part), '') if part.isdecimal() else (1, 0, part)
-                 for part in parts if part), text
+    """A key that puts R2 before R10. Of two numbers without leading zeros the longer is greater."""
+    key = []
+    for part in re.split(r'(\d+)', text.casefold()):
+        digits = ''.join(str(decimal(sign)) for sign in part) if part.isdecimal() else ''
+        bare = digits.lstrip('0')
+        if part:
+            key.append((0, len(bare), bare) if digits else (1, 0, part))
+    return tuple(key), text
 
 
 def number_colours(names: Sequence[str]) -> dict[str, int]:

@@ -12,6 +12,7 @@ from mill_desk.numbers import decimal_places, show_plain
 from mill_desk.palette import shades
 from mill_desk.plan import Slab
 from mill_desk.problem import Problem
+from mill_desk.tables import visible
 
 Value = str | int | Fraction
 
@@ -85,9 +86,9 @@ def add_sheet(book: Any, title: str, rows: Sequence[Sequence[Value]]) -> Any:
 
 
 def put(cell: Any, value: Value) -> None:
-    """Sets a cell. A fraction that no decimal writes is kept as text."""
+    """Sets a cell. A fraction that no decimal writes is kept as text, odd characters as words."""
     if isinstance(value, str):
-        cell.value = value
+        cell.value = visible(value)
         cell.data_type = 's'
     elif isinstance(value, int):
         cell.value = value

@@ -186,9 +186,16 @@ def too_long(row: Row, columns: int, separator: str) -> Fault:
                  mend)
 
 
+def is_odd(sign: str) -> bool:
+    """Whether a character can't be seen, or can't stand in an .xlsx file."""
+    return unicodedata.category(sign) in ('Cc', 'Cf', 'Cs', 'Zl', 'Zp') or sign in '\ufffe\uffff'
+
+
 def odd_sign(text: str) -> str | None:
-    """The first character of a text that can't be seen, as U+0007; None where there is none."""
-    for sign in text:
-        if unicodedata.category(sign) in ('Cc', 'Cf', 'Cs', 'Zl', 'Zp'):
-            return f'U+{ord(sign):04X}'
-    return None
+    """The first odd character of a text, as U+0007; None where there is none."""
+    return next((f'U+{ord(sign):04X}' for sign in text if is_odd(sign)), None)
+
+
+def visible(text: str) -> str:
+    """The text with its odd characters in words."""
+    return ''.join(f'U+{ord(sign):04X}' if is_odd(sign) else sign for sign in text)

@@ -127,6 +127,28 @@ class Plans(InFolder):
                                  ('007', 's'), ('1e5', 's')])
 
 
+    @needs('openpyxl')
+    def test_odd_characters_beside_the_orders_are_words_in_the_workbook(self) -> None:
+        import openpyxl
+        path = self.write('orders.csv', 'Or\x07der,Weight,Col\uffffour\nA,7,x\nTotal\x1b,7,\n')
+        outcome = desk('plan', path, '--sizes', '13', '--id', 'Or\x07der', '--colour',
+                       'Col\uffffour', '--unit', 't\x02', '--out', self.folder / 'plan')
+        self.assertEqual((outcome.status, outcome.err), (0, ''))
+        book = openpyxl.load_workbook(self.folder / 'plan' / 'plan.xlsx')
+        said = ' '.join(str(cell) for row in book['statement'].values for cell in row)
+        self.assertIn('id "OrU+0007der", weight "Weight", colour "ColU+FFFFour"', said)
+        self.assertIn('row 3 is named "TotalU+001B"', said)
+        self.assertEqual(book['plan']['B1'].value, 'weight (tU+0002)')
+
+    def test_a_colour_of_5000_digits(self) -> None:
+        long = '9' * 5000
+        path = self.write('orders.csv', f'Order,Weight,Colour\nA,7,{long}\nB,5,R10\nC,4,R9\n')
+        outcome = desk('plan', path, '--sizes', '13', '--out', self.folder / 'plan')
+        self.assertEqual((outcome.status, outcome.err), (0, ''))
+        self.assertEqual((self.folder / 'plan' / 'instance.txt').read_text(),
+                         '1 13\n3\n3\n7 1\n5 3\n4 2\n')
+
+
 FAULTS: dict[str, tuple[str, str]] = {
     'an order twice': (CHECKED.format(1, 1, 1) + 'A;2\n', 'cell A5: the order id "A" stands in '
                        'row 2 too; an order goes on one slab'),

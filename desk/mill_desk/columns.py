@@ -39,7 +39,9 @@ NAMES = {
         'size', 'sizes', 'slab size', 'slab sizes', 'grosse', 'grossen', 'brammengrosse',
         'brammengrossen', 'taille', 'tailles', 'format', 'formats'},
 }
-UNITS = ('t', 'to', 'tons', 'tonnes', 'tonnen', 'mt', 'kg', 'g', 'lb', 'lbs')
+# Each unit as headers write it, and the one that it is.
+UNITS = {'t': 't', 'to': 't', 'tons': 't', 'tonnes': 't', 'tonnen': 't', 'mt': 't', 'kg': 'kg',
+         'g': 'g', 'lb': 'lb', 'lbs': 'lb'}
 _UNIT_AT_END = re.compile(r'^(.*?\S)\s+(?:in\s+|en\s+)?(' + '|'.join(UNITS) + r')$')
 
 
@@ -106,6 +108,16 @@ def find_columns(table: Table, wanted: dict[Column, str | None]) -> dict[Column,
         raise TableTrouble(table.name, [Fault('', 'one column is named twice',
                                               'name a column of its own for each')])
     return columns
+
+
+def unit_fault(weights: Cell, sizes: Cell | None, sheet: str) -> list[Fault]:
+    """The fault that the headers of weights and sizes name two units; none where one names none."""
+    ours, theirs = read_header(weights.text).unit, read_header(sizes.text).unit if sizes else ''
+    if sizes is None or not ours or not theirs or UNITS[ours] == UNITS[theirs]:
+        return []
+    return [Fault(weights.place, f'the weights are in {ours} ("{weights.text}"), and the sizes in '
+                  f'{theirs} (sheet {sheet}, {sizes.place}, "{sizes.text}")',
+                  'give both in one unit')]
 
 
 def header_cell(table: Table, column: int) -> Cell:

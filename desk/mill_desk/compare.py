@@ -13,7 +13,7 @@ from mill_desk.output import choose_folder, output_folder
 from mill_desk.page import Fact, subtitle
 from mill_desk.palette import shades
 from mill_desk.plan import Slab, totals_of
-from mill_desk.plan_table import read_plan
+from mill_desk.plan_table import own_settings, read_plan
 from mill_desk.planning import (Result, again_fact, digest_facts, judged, place_fact,
                                 source_facts)
 from mill_desk.problem import Problem, what_was_read
@@ -74,8 +74,8 @@ def compare(program: Program, orders: Path, plans: Sequence[Path], settings: Set
     problem = read_problem(orders, settings)
     say(f'Read {what_was_read(problem)}.')
     sides = []
-    for path in plans:
-        result, run = judged(program, problem, read_plan(path, problem, settings))
+    for path, own in zip(plans, own_settings(plans, settings), strict=True):
+        result, run = judged(program, problem, read_plan(path, problem, own))
         if run.status != 0:
             say(f'{path}: {result.verdict.headline} {result.verdict.text}')
             return Exit.REJECTED

@@ -6,7 +6,8 @@ from fractions import Fraction
 from pathlib import Path
 
 from mill_desk import workbook
-from mill_desk.columns import Column, find_columns, header_cell, plain_words, read_header
+from mill_desk.columns import (Column, find_columns, header_cell, plain_words, read_header,
+                               unit_fault)
 from mill_desk.numbers import (Mark, decide_mark, decimal_places, greatest_step, read_number, show,
                                show_plain, why_no_number)
 from mill_desk.problem import (MOST_ORDERS, MOST_SIZES, MOST_STEPS, Order, Problem, Source,
@@ -45,12 +46,13 @@ def read_problem(path: Path, settings: Settings, added: tuple[Fraction, ...] = (
     table = read_table(path, sheet)
     columns = find_columns(table, {Column.ID: settings.id, Column.WEIGHT: settings.weight,
                                    Column.COLOUR: settings.colour})
-    sizes, size_faults, origin = read_sizes(path, settings)
-    sizes += [Size(value, f'--add-size {show_plain(value)}') for value in added]
+    found = read_sizes(path, settings)
+    sizes = found.values + [Size(value, f'--add-size {show_plain(value)}') for value in added]
     lines, notes = order_lines(table, columns)
     reads, faults = read_lines(lines, settings.decimal)
-    faults = table.ragged + size_faults + faults
-    if sizes and not size_faults:
+    two_units = unit_fault(header_cell(table, columns[Column.WEIGHT]), found.header, SIZES_SHEET)
+    faults = table.ragged + two_units + found.faults + faults
+    if sizes and not found.faults and not two_units:
         faults += too_heavy(reads, sizes)
     if len(lines) > MOST_ORDERS:
         faults.append(Fault('', f'{len(lines):,} orders', 'the program takes at most 1,024'))
@@ -64,7 +66,7 @@ def read_problem(path: Path, settings: Settings, added: tuple[Fraction, ...] = (
         settings.title or path.stem, (), {}, tuple(sorted({size.value for size in sizes})),
         settings.colours_per_slab, unit=unit[0], rounded=settings.round_up, headers=headers,
         notes=tuple(table.notes + notes + colour_notes(reads)),
-        sources=sources_of(table, headers, settings, origin, unit, sizes))
+        sources=sources_of(table, headers, settings, found.origin, unit, sizes))
     return scaled(problem, table.name, reads, sizes, settings)
 
 

@@ -1,12 +1,13 @@
 """Reads a plan from a table: which order goes on which slab. Slab names are any text."""
 
-from dataclasses import dataclass
+from collections.abc import Sequence
+from dataclasses import dataclass, replace
 from pathlib import Path
 
 from mill_desk.columns import Column, find_columns
 from mill_desk.orders import first_sheet, text_faults
 from mill_desk.problem import Problem
-from mill_desk.settings import Settings
+from mill_desk.settings import FILE_NAME, Settings
 from mill_desk.tables import Cell, Table, read_table
 from mill_desk.trouble import Fault, TableTrouble
 
@@ -25,7 +26,7 @@ def read_plan(path: Path, problem: Problem, settings: Settings) -> PlanTable:
     """The plan of a table. Slabs are numbered by their first order in the problem."""
     table = read_table(path, first_sheet(path))
     columns = find_columns(table, {Column.ID: if_there(table, settings.id),
-                                   Column.SLAB: if_there(table, settings.slab)})
+                                   Column.SLAB: slab_header(table, settings)})
     known = {order.id for order in problem.orders}
     found: dict[str, tuple[str, int]] = {}
     faults: list[Fault] = list(table.ragged)
@@ -50,6 +51,22 @@ def read_plan(path: Path, problem: Problem, settings: Settings) -> PlanTable:
 def if_there(table: Table, header: str | None) -> str | None:
     """The header asked for, where this table has it: orders and plan may be headed differently."""
     return header if any(cell.text == header for cell in table.header) else None
+
+
+def slab_header(table: Table, settings: Settings) -> str | None:
+    """The header of the slabs that is asked for. One of desk.toml may be that of other tables."""
+    by_option = settings.sources.get('slab', FILE_NAME) != FILE_NAME
+    return settings.slab if by_option else if_there(table, settings.slab)
+
+
+def own_settings(plans: Sequence[Path], settings: Settings) -> list[Settings]:
+    """The settings for each plan: a header of slabs that one of them has is no matter of others."""
+    headers = [{cell.text for cell in read_table(path, first_sheet(path)).header}
+               for path in plans]
+    if not any(settings.slab in names for names in headers):
+        return [settings] * len(plans)
+    return [settings if settings.slab in names else replace(settings, slab=None, sources={})
+            for names in headers]
 
 
 def row_faults(order: Cell, slab: Cell, known: set[str],

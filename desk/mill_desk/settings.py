@@ -18,6 +18,8 @@ from mill_desk.numbers import Mark, read_number, show_plain
 from mill_desk.trouble import Exit, Trouble, WordsTrouble
 
 FILE_NAME = 'desk.toml'
+# A whole number, plain or in groups of three with one mark between them.
+WHOLE = re.compile(r'[0-9]+|[1-9][0-9]{0,2}([ ,_\u202f])[0-9]{3}(?:\1[0-9]{3})*')
 
 
 class WrongValue(ValueError):
@@ -57,7 +59,8 @@ def whole(least: int, most: int) -> Callable[[str], int]:
     def read(text: str) -> int:
         """The number."""
         digits = re.sub(r'[ ,_\u202f]', '', text)
-        if not re.fullmatch(r'[0-9]{1,12}', digits) or not least <= int(digits) <= most:
+        if (not WHOLE.fullmatch(text.strip()) or len(digits) > 12
+                or not least <= int(digits) <= most):
             raise WrongValue(f'must be a whole number from {least} to {most:,}')
         return int(digits)
     return read

@@ -34,21 +34,32 @@ class _Text:
     trouble: tuple[str, str] | None = None
 
 
-def read_sizes(path: Path, settings: Settings) -> tuple[list[Size], list[Fault], str]:
-    """The sizes, their faults, and where they come from."""
+@dataclass(frozen=True)
+class Sizes:
+    """The sizes, their faults, where they come from, and the header of a sheet that has one."""
+
+    values: list[Size]
+    faults: list[Fault]
+    origin: str
+    header: Cell | None = None
+
+
+def read_sizes(path: Path, settings: Settings) -> Sizes:
+    """The sizes of an option or of desk.toml, else of the sheet."""
+    header = None
     if settings.sizes is not None:
         origin = settings.source('sizes')
         texts = split_sizes(settings.sizes, origin)
     else:
         table = sizes_table(path)
         origin = f'the sheet {SIZES_SHEET}'
-        texts = sheet_sizes(table)
+        header, texts = sheet_sizes(table)
     sizes, faults = values_of(texts, settings.decimal)
     if not texts:
         faults.append(Fault(origin, 'there is no size'))
     if len({size.value for size in sizes}) > MOST_SIZES:
         faults.append(Fault(origin, f'{len(sizes):,} sizes', 'the program takes at most 1,024'))
-    return sizes, faults, origin
+    return Sizes(sizes, faults, origin, header)
 
 
 def split_sizes(text: str, origin: str) -> list[_Text]:
@@ -79,8 +90,8 @@ def sizes_table(path: Path) -> Table:
                        'sheet named sizes')
 
 
-def sheet_sizes(table: Table) -> list[_Text]:
-    """The cells below the header of the sizes, or of the one column that the sheet has."""
+def sheet_sizes(table: Table) -> tuple[Cell | None, list[_Text]]:
+    """The header of the sizes, or of the one column that the sheet has, and the cells below."""
     column = find_column(table, Column.SIZE)
     rows = table.rows
     if isinstance(column, Fault):
@@ -91,9 +102,9 @@ def sheet_sizes(table: Table) -> list[_Text]:
         column = filled.pop()
         first = table.header[column - 1]
         if first.number is not None or any(read_number(first.text, mark) for mark in Mark):
-            return [as_text(first)] + [as_text(row.at(column)) for row in rows]
+            return None, [as_text(first)] + [as_text(row.at(column)) for row in rows]
     cells = [row.at(column) for row in rows]
-    return [as_text(cell) for cell in cells if cell.text or cell.trouble]
+    return table.header[column - 1], [as_text(cell) for cell in cells if cell.text or cell.trouble]
 
 
 def as_text(cell: Cell) -> _Text:

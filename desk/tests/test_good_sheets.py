@@ -132,7 +132,8 @@ class Sizes(InFolder):
 
     def sizes(self, text: str) -> list[Fraction]:
         """The sizes of a list."""
-        found, faults, _ = read_sizes(Path('none.csv'), Settings(sizes=text))
+        sizes = read_sizes(Path('none.csv'), Settings(sizes=text))
+        found, faults = sizes.values, sizes.faults
         self.assertEqual(faults, [])
         return [size.value for size in found]
 

@@ -258,6 +258,16 @@ class Checks(InFolder):
         self.assertTrue(said.endswith(f'desk: mine.csv is to be mended:\n  {message}\n'), said)
         self.assertFalse((self.folder / 'check').exists())
 
+    def test_a_header_of_slabs_that_is_asked_for_and_is_not_there(self) -> None:
+        plan = 'Order;Slab;Where\nA;1;1\nB;2;1\nC;1;2\n'
+        status, said = self.check(plan, '--slab', 'Nonsense')
+        self.assertEqual(status, 3)
+        self.assertIn('row 1: no column is headed "Nonsense"; name it by --slab "HEADER"; the '
+                      'headers are: "Order", "Slab", "Where"', said)
+        self.assertEqual(self.check(plan, '--slab', 'Where')[0], 8)
+        self.write('desk.toml', 'slab = "Nonsense"\n')
+        self.assertEqual(self.check(plan)[0], 0)
+
     def test_a_slab_that_is_heavy_in_rounded_numbers_alone(self) -> None:
         status, said = self.check(CHECKED.format(1, 2, 1), '--step', '5', '--round-up')
         self.assertEqual(status, 8)
@@ -335,6 +345,20 @@ class Compares(InFolder):
             Case.COMPARED, Mood.OPEN, 'Both lose the same.', 'one: 0 on 0 slabs. two: 0 on 0 '
             'slabs. Both plans were judged legal by check. It says nothing of other plans: a '
             'better one may exist.'))
+
+    def test_a_header_that_one_plan_has(self) -> None:
+        plan = 'Order;Slab;Where\nA;1;1\nB;2;1\nC;1;2\n'
+        orders = self.write('orders.csv', SHEET)
+        plans = [self.write('one.csv', plan), self.write('two.csv', CHECKED.format(1, 2, 1))]
+        outcome = desk('compare', orders, *plans, '--sizes', '15', '--slab', 'Where', '--out',
+                       self.folder / 'compare')
+        self.assertEqual((outcome.status, outcome.err), (0, ''))
+        self.assertIn('one.csv: 10 t on 2 slabs. two.csv: '
+                      '10 t on 2 slabs.', outcome.out)
+        outcome = desk('compare', orders, *plans, '--sizes', '15', '--slab', 'Nonsense')
+        self.assertEqual(outcome.status, 3)
+        self.assertIn('one.csv is to be mended:\n  row 1: no column is headed "Nonsense"',
+                      outcome.err)
 
     def test_the_same(self) -> None:
         _, said = self.compare(CHECKED.format(1, 2, 1), CHECKED.format('a', 'b', 'a'))

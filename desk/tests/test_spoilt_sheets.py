@@ -7,6 +7,7 @@ from collections.abc import Callable
 from dataclasses import dataclass
 from typing import Any
 
+from mill_desk.settings import whole
 from tests.support import InFolder, desk, each, needs, spread
 
 HEAD = 'Order,Weight,Colour\n'
@@ -275,6 +276,12 @@ WORDS: dict[str, tuple[tuple[str, ...], str]] = {
                                 '14.5; 17"'),
     'nodes that are no number': (('--nodes', 'many'), '--nodes: "many" must be a whole number '
                                  'from 0 to 1,000,000,000'),
+    'nodes with a decimal comma': (('--nodes', '1,5'), '--nodes: "1,5" must be a whole number '
+                                   'from 0 to 1,000,000,000'),
+    'nodes in two groupings': (('--nodes', '1,000 000'), '--nodes: "1,000 000" must be a whole '
+                               'number from 0 to 1,000,000,000'),
+    'nodes with a group of four': (('--nodes', '1,0000'), '--nodes: "1,0000" must be a whole '
+                                   'number from 0 to 1,000,000,000'),
     'nine colours': (('--colours-per-slab', '9'), '--colours-per-slab: "9" must be a whole number '
                      'from 1 to 8'),
     'two budgets': (('--nodes', '5', '--minutes', '1'), '--nodes and --minutes are two budgets: '
@@ -288,6 +295,41 @@ WORDS: dict[str, tuple[tuple[str, ...], str]] = {
 
 
 @spread
+@needs('openpyxl')
+class Units(InFolder):
+    """The headers of weights and sizes, where each names a unit."""
+
+    def plan(self, weights: str, sizes: str) -> tuple[int, str]:
+        """Plans a workbook with these two headers."""
+        import openpyxl
+        book = openpyxl.Workbook()
+        book.active.title = 'Week'
+        for row in (['Order', weights, 'Colour'], ['A', 7, 'red']):
+            book.active.append(row)
+        other = book.create_sheet('sizes')
+        for cell in (sizes, 12, 15):
+            other.append([cell])
+        book.save(self.folder / 'sheet.xlsx')
+        outcome = desk('plan', self.folder / 'sheet.xlsx', '--out', self.folder / 'plan')
+        return outcome.status, outcome.err
+
+    @each({'in brackets': ('Weight (t)', 'Size (kg)', 't', 'kg'),
+           'at the end': ('Weight kg', 'Sizes in tonnes', 'kg', 'tonnes'),
+           'a header of any words': ('Weight [t]', 'What we cast (lb)', 't', 'lb')})
+    def test_two_units_are_refused(self, row: tuple[str, str, str, str]) -> None:
+        weights, sizes, ours, theirs = row
+        self.assertEqual(self.plan(weights, sizes), (
+            3, f'desk: sheet.xlsx, sheet Week is to be mended:\n  cell B1: the weights are in '
+            f'{ours} ("{weights}"), and the sizes in {theirs} (sheet sizes, cell A1, "{sizes}"); '
+            'give both in one unit\n'))
+
+    @each({'one unit': ('Weight (t)', 'Size (tonnes)'), 'none of sizes': ('Weight (t)', 'Size'),
+           'none of weights': ('Weight', 'Size (kg)')})
+    def test_others_are_taken(self, row: tuple[str, str]) -> None:
+        self.assertEqual(self.plan(*row), (0, ''))
+
+
+@spread
 class WrongWords(InFolder):
     """Wrong words end with status 2."""
 
@@ -297,6 +339,11 @@ class WrongWords(InFolder):
         path = self.write('sheet.csv', HEAD + 'A,7,red\n')
         outcome = desk('plan', path, *options)
         self.assertEqual((outcome.err, outcome.status), (f'desk: {message}\n', 2))
+
+    def test_whole_numbers_in_groups_of_three(self) -> None:
+        read = whole(0, 1_000_000_000)
+        for text in ('1000000', '1,000,000', '1 000 000', '1_000_000', '1\u202f000\u202f000'):
+            self.assertEqual(read(text), 1_000_000)
 
     def test_a_file_that_is_not_there(self) -> None:
         path = self.folder / 'none.csv'

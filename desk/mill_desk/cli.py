@@ -17,7 +17,8 @@ EPILOG = '''The same names stand in a file desk.toml beside the orders, as in
   colours-per-slab = 2
 An option wins over the file. Sizes may also be a sheet named sizes.
 Status: 0, 1 and 4 to 9 as the program; 2 wrong words; 3 a table to mend;
-70 a fault of the desk.'''
+70 a fault of the desk; 126 or 127 where the program is missing; 130 where
+Ctrl-C, or the time of --minutes, ended it before there was an answer.'''
 
 
 def add_program(parser: ArgumentParser) -> None:

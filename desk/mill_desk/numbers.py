@@ -162,9 +162,12 @@ def show(value: Fraction | int) -> str:
 
 
 def percent(part: Fraction, whole: Fraction) -> str:
-    """The share of the part, rounded to hundredths of a percent."""
-    share = round(100 * part / whole, 2) if whole else Fraction(0)
-    return f'{show_plain(share, 2)}%'
+    """The share of the part in percent: exact, or rounded to hundredths with a word."""
+    share = 100 * part / whole if whole else Fraction(0)
+    rounded = round(share, 2)
+    if rounded == share:
+        return f'{show(share)}%'
+    return f'about {show_plain(rounded, 2)}%' if rounded else 'less than 0.01%'
 
 
 def plural(count: int, one: str, many: str = '') -> str:

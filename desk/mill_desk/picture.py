@@ -119,7 +119,7 @@ def slide(problem: Problem, slabs: Sequence[Slab], verdict: Verdict) -> str:
                   steel=f'of {problem.amount(sums.steel)} of steel '
                         f'({percent(sums.loss, sums.steel)}).',
                   settled=verdict.mood is Mood.SETTLED,
-                  headline=clipped(verdict.headline, 80), lines=lines_of(frame), entries=entries,
+                  headline=clipped(verdict.headline, 74), lines=lines_of(frame), entries=entries,
                   blocks=blocks_of(frame, drawn), names=names_of(frame, drawn),
                   rest=rest_of(problem, rest), rest_count=len(rest), foot=frame.foot)
 

@@ -4,7 +4,7 @@ from collections.abc import Sequence
 from fractions import Fraction
 
 from mill_desk.answer import Answer, Kind
-from mill_desk.numbers import plural, show
+from mill_desk.numbers import percent, plural
 from mill_desk.plan import Slab, check_line, is_heavy_in_steps, totals_of
 from mill_desk.problem import Order, Problem
 from mill_desk.program import Program, Run
@@ -155,7 +155,7 @@ def why_illegal(problem: Problem, slab: Slab) -> str:
 def in_short(problem: Problem, slabs: Sequence[Slab]) -> str:
     """The sums of a plan in a line."""
     sums = totals_of(slabs)
-    share = f', {show(round(100 * sums.loss / sums.steel, 2))}% of it lost' if sums.steel else ''
+    share = f', {percent(sums.loss, sums.steel)} of it lost' if sums.steel else ''
     return (f'{plural(sums.slabs, "slab")}, {sums.losing} of them '
             f'{"loses" if sums.losing == 1 else "lose"} something; '
             f'{problem.amount(sums.steel or Fraction(0))} of steel{share}')

@@ -25,7 +25,7 @@ from mill_desk.wording import Case
 WHAT_IF_FILES = frozenset({'what-if.csv'})
 HEADERS = ('sizes', 'colours a slab', 'loss', 'of the steel', 'slabs', 'what is proved', 'seconds')
 ROUNDED_HEADER = 'rounded loss'
-WIDTHS = {'sizes': 16, 'colours a slab': 14, 'loss': 10, ROUNDED_HEADER: 12, 'of the steel': 12,
+WIDTHS = {'sizes': 16, 'colours a slab': 14, 'loss': 10, ROUNDED_HEADER: 12, 'of the steel': 15,
           'slabs': 6, 'what is proved': 50, 'seconds': 8}
 AT_LEFT = ('sizes', 'what is proved')
 PROVED = {

@@ -88,8 +88,11 @@ class Writing(unittest.TestCase):
         self.assertEqual(show(-20000), '-20\u202f000')
 
     def test_shares_and_counts(self) -> None:
-        self.assertEqual(percent(Fraction(39, 2), Fraction(935, 2)), '4.17%')
-        self.assertEqual(percent(Fraction(0), Fraction(0)), '0.00%')
+        for part, whole, text in ((39, 935, 'about 4.17%'), (0, 0, '0%'), (0, 7, '0%'),
+                                  (81, 1000, '8.1%'), (1, 8, '12.5%'),
+                                  (81001, 1000000, 'about 8.10%'), (1, 20000, 'less than 0.01%'),
+                                  (1, 10000, '0.01%'), (1, 15000, 'about 0.01%')):
+            self.assertEqual(percent(Fraction(part), Fraction(whole)), text)
         self.assertEqual((plural(1, 'slab'), plural(2, 'slab')), ('1 slab', '2 slabs'))
 
 

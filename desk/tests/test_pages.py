@@ -64,7 +64,8 @@ class Pages(InFolder):
         folder = '&#34;$DIR/{}.txt&#34;'.format
         for part in ('set DIR to the folder of this page (it was written to ',
                      f'solve --colours 2 --nodes 100 &lt; {folder("instance")} &gt; '
-                     + folder('answer'), 'check --colours 2', 'SHA-256 of the program', 'SHA-256 of instance.txt',
+                     + folder('answer'), 'check --colours 2',
+                     'SHA-256 of the program', 'SHA-256 of instance.txt',
                      'SHA-256 of answer.txt', '(desk.toml)', 'colours per slab',
                      'nothing was rounded'):
             self.assertIn(part, page)

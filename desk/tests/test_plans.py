@@ -58,9 +58,11 @@ class Plans(InFolder):
         said = self.plan()
         self.assertTrue(said.startswith('Read 3 orders of 2 colours, together 20 t; the lightest'))
         self.assertIn(f'{STAND_IN} says that no legal plan loses less than 4 t.', said)
-        self.assertIn('2 slabs, 1 of them loses something; 24 t of steel, 16.67% of it lost.',
-                      said)
+        self.assertIn('2 slabs, 1 of them loses something; 24 t of steel, about 16.67% of it '
+                      'lost.', said)
         self.assertIn('Written to ', said)
+        for name in ('plan.html', 'plan.svg') if rendering.is_installed() else ():
+            self.assertIn('about 16.67%', (self.folder / 'plan' / name).read_text('utf-8'))
 
     def test_proved_is_verified(self) -> None:
         said = self.plan('--prove')
@@ -466,10 +468,10 @@ class Others(InFolder):
         rows = [row[:6] for row in csv.reader(text.splitlines())]
         self.assertEqual(rows, [
             ['sizes', 'colours a slab', 'loss', 'of the steel', 'slabs', 'what is proved'],
-            ['as given', '1', '4', '16.67%', '2', 'the program says optimal'],
-            ['as given', '2', '4', '16.67%', '2', 'the program says optimal'],
-            ['8 added', '1', '0', '0.00%', '2', 'the program says optimal'],
-            ['8 added', '2', '0', '0.00%', '2', 'the program says optimal']])
+            ['as given', '1', '4', 'about 16.67%', '2', 'the program says optimal'],
+            ['as given', '2', '4', 'about 16.67%', '2', 'the program says optimal'],
+            ['8 added', '1', '0', '0%', '2', 'the program says optimal'],
+            ['8 added', '2', '0', '0%', '2', 'the program says optimal']])
 
     def test_what_if_in_rounded_numbers_has_both_losses(self) -> None:
         path = self.write('orders.csv', 'Order,Weight,Colour\nA,6.4,red\nB,5.3,red\n')

@@ -2,6 +2,7 @@
 
 import os
 import pty
+import re
 import signal
 import subprocess
 import sys
@@ -10,7 +11,7 @@ from pathlib import Path
 from unittest import mock
 
 from mill_desk.program import find_program
-from mill_desk.trouble import Trouble
+from mill_desk.trouble import Exit, Trouble
 from tests.support import DESK, STAND_IN, TOP, InFolder, desk, each, launched, needs, spread
 
 SHEET = 'Order,Weight,Colour\nA,7,red\nB,8,blue\nC,5,red\n'
@@ -403,6 +404,14 @@ class Launching(InFolder):
         self.assertEqual(done.returncode, 0)
         for command in ('plan', 'check', 'compare', 'show', 'explain', 'tree', 'what-if', 'table'):
             self.assertIn(command, done.stdout)
+
+    def test_its_own_statuses_are_told(self) -> None:
+        said = launched('plan', '--help').stdout.partition('\nStatus: ')[2]
+        page = (DESK / 'README.md').read_text().partition('The status is the program\'s: ')[2]
+        own = set(Exit) - {Exit.DONE, Exit.WRITING, Exit.REJECTED}
+        for text in (said, page):
+            self.assertLessEqual({str(int(status)) for status in own},
+                                 set(re.findall(r'\d+', text.partition('\n\n')[0])))
         self.assertEqual(launched().returncode, 2)
 
     def test_it_works_from_anywhere_and_through_a_link(self) -> None:

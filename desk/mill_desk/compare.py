@@ -10,7 +10,7 @@ from mill_desk.console import say
 from mill_desk.numbers import plural, show
 from mill_desk.orders import read_problem
 from mill_desk.output import choose_folder, output_folder
-from mill_desk.page import Fact, subtitle
+from mill_desk.page import Fact, subtitle, unit_of
 from mill_desk.palette import shades
 from mill_desk.plan import Slab, totals_of
 from mill_desk.plan_table import own_settings, read_plan
@@ -142,7 +142,7 @@ def compare_page(problem: Problem, first: Side, second: Side, said: Verdict,
                   verdict=said, halves=[half_of(problem, scale, side, shared)
                                         for side in (first, second)],
                   same=[same[::2], same[1::2]], same_count=plural(len(same), 'slab'),
-                  names=(first.name, second.name), moves=moves,
+                  names=(first.name, second.name), moves=moves, unit=unit_of(problem),
                   moved=plural(len(moves), 'order'), facts=facts, notes=problem.notes,
                   room=room_of(problem, slabs))
 

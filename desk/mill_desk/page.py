@@ -131,6 +131,11 @@ def keys_of(problem: Problem, *values: Fraction) -> tuple[str, str, str]:
     return first, second, third
 
 
+def unit_of(problem: Problem) -> str:
+    """The unit as it stands behind a header; '' where there is none."""
+    return f' ({problem.unit})' if problem.unit else ''
+
+
 def headers_of(problem: Problem) -> tuple[str, str, str]:
     """The headers of the orders' own table, where they have some."""
     names = list(problem.headers.values())
@@ -148,5 +153,6 @@ def plan_page(problem: Problem, slabs: Sequence[Slab], verdict: Verdict, facts: 
                   legend=legend_of(problem), ticks=ticks_of(scale), grid=grid_of(scale),
                   bars=bars_of(scale, slabs), sizes=size_rows(problem, slabs),
                   orders=order_rows(problem, slabs) if slabs else [],
-                  headers=headers_of(problem), facts=facts, notes=problem.notes,
+                  headers=headers_of(problem), unit=unit_of(problem), facts=facts,
+                  notes=problem.notes,
                   room=room_of(problem, slabs))

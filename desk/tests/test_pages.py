@@ -11,7 +11,7 @@ from mill_desk.palette import hue
 from mill_desk.plan import slabs_of
 from mill_desk.problem import Order, Problem
 from mill_desk.wording import Case, verdict
-from tests.support import EXAMPLES, InFolder, desk, needs
+from tests.support import DESK, EXAMPLES, InFolder, desk, needs
 
 HOSTILE = '</script><script>alert(1)</script><img src=x onerror=alert(2)>\'"&{{ 7 }}'
 
@@ -101,6 +101,27 @@ class Pages(InFolder):
         self.assertEqual(len(re.findall(r'class="piece', page)), 60)
         rows = re.findall(r'<tr><td>(SO-[^<]+)</td>', page)
         self.assertEqual(len(set(rows)), 60)
+
+
+    def test_amounts_in_tables_have_their_unit(self) -> None:
+        page = self.page()
+        heads = [re.findall(r'<button type="button">([^<]*)</button>', head)
+                 for head in re.findall(r'<thead>(.*?)</thead>', page, re.DOTALL)]
+        self.assertEqual(heads, [
+            ['size (t)', 'slabs', 'steel (t)', 'lost (t)'],
+            ['Order', 'Weight t', 'Route', 'slab', 'slab size (t)', 'slab loss (t)']])
+
+
+class Sources(unittest.TestCase):
+    """The files that the desk is made of."""
+
+    def test_their_lines_have_at_most_a_hundred_characters(self) -> None:
+        files = [DESK / 'README.md', *DESK.glob('templates/*'), *DESK.glob('mill_desk/*.py'),
+                 *DESK.glob('tests/*.py')]
+        long = [f'{path.name}:{number}' for path in files
+                for number, line in enumerate(path.read_text('utf-8').split('\n'), 1)
+                if len(line) > 100]
+        self.assertEqual(long, [])
 
 
 class Slabs(unittest.TestCase):

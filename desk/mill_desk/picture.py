@@ -169,7 +169,7 @@ def blocks_of(frame: Frame, slabs: Sequence[Slab]) -> list[Block]:
 def block(frame: Frame, x: Fraction, y: Fraction, high: Fraction, fill: str, tip: str,
           label: str = '', is_upright: bool = False) -> Block:
     """A block with its text in the middle."""
-    right, down = (BASE, 0) if is_upright else (0, BASE)
+    right, down = (BASE, Fraction(0)) if is_upright else (Fraction(0), BASE)
     return Block(pixels(x), pixels(y), pixels(frame.width), pixels(high), fill, tip, label,
                  is_upright, pixels(x + frame.width / 2 + right), pixels(y + high / 2 + down))
 

@@ -61,6 +61,8 @@ def slab_header(table: Table, settings: Settings) -> str | None:
 
 def own_settings(plans: Sequence[Path], settings: Settings) -> list[Settings]:
     """The settings for each plan: a header of slabs that one of them has is no matter of others."""
+    if settings.slab is None:
+        return [settings] * len(plans)
     headers = [{cell.text for cell in read_table(path, first_sheet(path)).header}
                for path in plans]
     if not any(settings.slab in names for names in headers):

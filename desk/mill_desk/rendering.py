@@ -35,5 +35,6 @@ def environment() -> Any:
 
 
 def render(name: str, **values: object) -> str:
-    """The text of a template with these values."""
-    return str(environment().get_template(name).render(**values))
+    """The text of a template with these values; what no text can hold, as of file names, is `?`."""
+    text = str(environment().get_template(name).render(**values))
+    return text.encode('utf-8', 'replace').decode()

@@ -12,7 +12,6 @@ from mill_desk.trouble import DeskFault
 from mill_desk.wording import HEAVY_IN_ROUNDED, ROUNDED, Case, Speaker, Verdict, read_line, verdict
 
 MOST_LISTED = 30
-ACCEPTED = ('legal loss L', 'verified loss L', 'confirmed infeasible order I')
 ABOUT_LOGS = ('verified loss L', 'rejected missing k g1 .. gk', 'rejected stray k g1 .. gk',
               'rejected unsound k g1 .. gk')
 
@@ -98,16 +97,14 @@ def refuse_other_count(problem: Problem, answer: Answer, run: Run) -> None:
     A line that is in no table is shown as it is, but not where it accepts what the desk doesn't.
     """
     counted, said = check_line(problem, answer), read_line(run.line)
-    is_good = not counted.startswith('rejected')
-    agrees = is_good or run.status != 0
-    if said is not None:
-        agrees &= (said.form in ACCEPTED) == (run.status == 0)
-        if said.form == 'verified loss L':
-            agrees &= said.number('L') == answer.loss
-        elif said.form in ABOUT_LOGS:
-            agrees &= is_good
-        else:
-            agrees &= run.line == counted
+    is_good, is_accepted = not counted.startswith('rejected'), run.status == 0
+    if said is None:
+        agrees = is_good or not is_accepted
+    elif is_good and run.words[0] == 'verify':
+        agrees = said.form in ABOUT_LOGS and is_accepted == (
+            run.line == f'verified loss {answer.loss}')
+    else:
+        agrees = run.line == counted and is_accepted == is_good
     if not agrees:
         raise DeskFault(f'its own count comes to "{counted}"; {run.words[0]} ended with status '
                         f'{run.status} and said: {run.line}')

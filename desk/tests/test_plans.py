@@ -2,9 +2,11 @@
 
 import csv
 import io
+import os
 import subprocess
 from fractions import Fraction
 from html import unescape
+from pathlib import Path
 
 from mill_desk import rendering, what_if, workbook
 from mill_desk.answer import Answer, Kind
@@ -94,6 +96,13 @@ class Plans(InFolder):
             outcome = desk('plan', 'orders.csv', '--sizes', '13')
         self.assertIn('Written to orders-plan:', outcome.out)
         self.assertTrue((self.folder / 'orders-plan' / 'plan.csv').exists())
+
+    def test_a_file_whose_name_is_no_text(self) -> None:
+        path = Path(os.fsdecode(os.fsencode(self.folder) + b'/w\xff.csv'))
+        path.write_text(SHEET)
+        with working_in(self.folder):
+            outcome = desk('plan', path, '--sizes', '13')
+        self.assertEqual((outcome.status, outcome.err), (0, ''))
 
     def test_a_folder_of_others_is_refused(self) -> None:
         target = self.folder / 'mine'
@@ -384,6 +393,7 @@ LIES: dict[str, tuple[str, str, int]] = {
     'a rejection that accepts': ('loss 7\nplan 1 1 1 1 1', 'rejected heavy slab 1 load 14', 0),
     'another load': ('loss 7\nplan 1 1 1 1 1', 'rejected heavy slab 1 load 15', 8),
     'a legal slab is heavy': ('loss 21\nplan 1 2 3 4 5', 'rejected heavy slab 1 load 9', 8),
+    'a log that isn\'t there': ('loss 21\nplan 1 2 3 4 5', 'verified loss 21', 0),
     'a stated loss that is right': ('loss 21\nplan 1 2 3 4 5', 'rejected loss stated 21 found 20',
                                     8),
 }
@@ -398,7 +408,8 @@ class Lies(InFolder):
     def test_show(self, row: tuple[str, str, int]) -> None:
         self.assert_fault('show', '', *row)
 
-    @each({key: row for key, row in LIES.items() if row[0].startswith('loss')})
+    @each({key: row for key, row in LIES.items()
+           if row[0].startswith('loss') and not row[1].startswith('verified')})
     def test_tree(self, row: tuple[str, str, int]) -> None:
         plan, line, status = row
         self.assert_fault('tree', 'log 1 1\nL 5 1 1 1 1 1\n', plan,

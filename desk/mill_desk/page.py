@@ -78,9 +78,10 @@ def subtitle(problem: Problem, slabs: Sequence[Slab]) -> str:
 
 
 def figures_of(problem: Problem, slabs: Sequence[Slab]) -> list[Figure]:
-    """The sums of the plan."""
+    """The sums of the plan, in the table's own numbers."""
     sums = totals_of(slabs)
-    return [Figure(problem.amount(sums.loss), f'lost, {percent(sums.loss, sums.steel)} of the '
+    lost = 'lost in the table\'s own numbers' if problem.rounded else 'lost'
+    return [Figure(problem.amount(sums.loss), f'{lost}, {percent(sums.loss, sums.steel)} of the '
                    'steel', sums.loss > 0),
             Figure(problem.amount(sums.steel), 'of slabs to cast'),
             Figure(problem.amount(problem.weight), 'of orders'),

@@ -150,9 +150,10 @@ def why_illegal(problem: Problem, slab: Slab) -> str:
 
 
 def in_short(problem: Problem, slabs: Sequence[Slab]) -> str:
-    """The sums of a plan in a line."""
+    """The sums of a plan in a line, which are those of the table's own numbers."""
     sums = totals_of(slabs)
+    whose = 'In the table\'s own numbers: ' if problem.rounded else ''
     share = f', {percent(sums.loss, sums.steel)} of it lost' if sums.steel else ''
-    return (f'{plural(sums.slabs, "slab")}, {sums.losing} of them '
+    return (f'{whose}{plural(sums.slabs, "slab")}, {sums.losing} of them '
             f'{"loses" if sums.losing == 1 else "lose"} something; '
             f'{problem.amount(sums.steel or Fraction(0))} of steel{share}')

@@ -303,6 +303,9 @@ class Checks(InFolder):
                           'numbers (weights up, sizes down, in steps of 1 t); in the table\'s own '
                           'numbers every slab is legal.', outcome.out)
             self.assertNotIn('the plan\'s legality', outcome.out)
+            if command[0] == 'check':
+                self.assertIn('In the table\'s own numbers: 1 slab, 1 of them loses something; 12 '
+                              't of steel, 2.5% of it lost.', outcome.out)
 
     def test_the_example_with_a_fault(self) -> None:
         outcome = desk('check', EXAMPLES / 'orders.csv', EXAMPLES / 'plan-with-a-fault.csv',

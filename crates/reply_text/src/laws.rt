@@ -16,5 +16,4 @@ pub fn status_numbers()
     ensures write_fault { WRITE_FAULT ≡ 6 }
     ensures out_of_memory { OUT_OF_MEMORY ≡ 7 }
     ensures rejected { REJECTED ≡ 8 }
-{
-}
+{}

@@ -6,7 +6,8 @@ use Rattle.std.specs.List.{list_all, list_any}
 use Rattle.std.specs.List.Sorted.{IsPermutation}
 use Rattle.std.proofs.Math.Seq.{drop-cons}
 use Rattle.std.proofs.lemmas.List.{drop_all, length-map}
-use Rattle.std.proofs.lemmas.List.Sorted.{IsPermutation-sym, IsPermutation-trans, IsPermutation-map}
+use Rattle.std.proofs.lemmas.List.Sorted.{IsPermutation-sym, IsPermutation-trans}
+use Rattle.std.proofs.lemmas.List.Sorted.{IsPermutation-map}
 use Rattle.std.proofs.lemmas.List.Sorted.{length_permutation, list_any-IsPermutation}
 use Rattle.std.proofs.lemmas.List.Sorted.{All-permutation}
 use Rattle.mill_model.specs.Instance.{IsOrder}
@@ -95,7 +96,8 @@ legal-there mill charge zs ys p h =
     record {
       each = rw (long, low) refl;
       slabs = each_below-from (length (map (λ (z : Lying). z.0) ys)) (λ s. legal mill
-          (slab s (map (λ (z : Lying). z.1) ys) (map (λ (z : Lying). z.0) ys))) (λ s l. sym (slab-legal-same mill charge zs ys s p)
+          (slab s (map (λ (z : Lying). z.1) ys) (map (λ (z : Lying). z.0) ys)))
+          (λ s l. sym (slab-legal-same mill charge zs ys s p)
           ∙ each_below-at (length (map (λ (z : Lying). z.0) zs)) (λ s. legal mill
           (slab s (map (λ (z : Lying). z.1) zs) (map (λ (z : Lying). z.0) zs))) s h.slabs
           (omega (arith, l, n)));

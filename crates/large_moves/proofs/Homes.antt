@@ -124,7 +124,8 @@ are-homes orders coloured same = record {
       absurd (omega (arith, two, one, t)));
 }
   where
-    homes-places : (coloured : List Coloured) → homes_of coloured ≡ places_of (map placed_of coloured)
+    homes-places : (coloured : List Coloured) →
+        homes_of coloured ≡ places_of (map placed_of coloured)
     homes-places [] = refl
     homes-places (c ∷ coloured) = ap (λ l. c.home ∷ l) (homes-places coloured)
 

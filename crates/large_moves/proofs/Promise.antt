@@ -14,7 +14,8 @@ use Rattle.large_moves.specs.Moved.{IsStart, IsMoved}
 use Rattle.large_moves.specs.Scans.{ClosesPairs}
 use Rattle.large_moves.specs.declared.closed.Closed.{Closed}
 use Rattle.large_moves.specs.declared.coloured.Coloured.{Coloured}
-use Rattle.large_moves.proofs.FileOrders.{count, same-loss, same-pairs, legal-in-file, closed-in-file}
+use Rattle.large_moves.proofs.FileOrders.{count, same-loss, same-pairs, legal-in-file}
+use Rattle.large_moves.proofs.FileOrders.{closed-in-file}
 
 module _ (mill : Mill) (charge : ℕ → ℕ) (orders : List Order) (coloured : List Coloured)
     (by : IsByColour (rank orders) coloured) (moves : ℕ) (before after : Start) (closed : Closed)

@@ -22,8 +22,8 @@ pub record IsSpent (charge : ℕ → ℕ) (laid : Laid) (pairs : List (ℕ × �
     pub tries : before ≤ length front
     pub more : 1 ≤ length rest
 
--- what a scan of some pairs comes to: all are closed; or the tries were spent on pairs that are; or
--- a pair was not closed, and its orders lie anew. Each pair takes at most one try.
+-- what a scan of some pairs comes to: all are closed; or the tries were spent on pairs that are;
+-- or a pair was not closed, and its orders lie anew. Each pair takes at most one try.
 abbrev pub IsScan : (ℕ → ℕ) → Laid → Laid → List (ℕ × ℕ) → ℕ → Scan → Type 0
 IsScan charge old new pairs before (Done left) =
     (new ≡ old) × AreClosed charge old pairs × (before ≤ left + length pairs)

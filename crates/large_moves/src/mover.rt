@@ -1,3 +1,4 @@
+//! Scans of pairs of slabs: each pair is tried in turn, and after each change from the first on.
 ghost use Rattle.std.specs.Prelude.{◌≡◌, ◌+◌, ◌<◌, ◌≤◌, ◌&&◌, false, true, leb, length};
 ghost use Rattle.std.specs.Prelude.{slice_index, IfOk};
 ghost use Rattle.mill_model.specs.Charges.{Reaches, charge_of};
@@ -21,8 +22,8 @@ use plan_check::slab_loads;
 use std::alloc::Global;
 use std::marker::Model;
 
-/// Orders on the slabs of a mill, those of each colour together, that moves lay anew. It holds what
-/// a try needs, so that a try takes no memory.
+/// Orders on the slabs of a mill, those of each colour together, that moves lay anew. It holds
+/// what a try needs, so that a try takes no memory.
 #[derive(Debug, Drop)]
 pub struct Mover {
     orders: Vec<Order>,

@@ -14,8 +14,8 @@ use std::alloc::Global;
 /// Moves the orders of one or two slabs at a time onto at most two slabs, where they lose strictly
 /// less there than before.
 ///
-/// The pairs of slabs are tried in order, and from the first on again after each change. A pair that
-/// loses nothing takes no move.
+/// The pairs of slabs are tried in order, and from the first on again after each change. A pair
+/// that loses nothing takes no move.
 pub fn pair_moves(
     alloc: Global,
     ranked: &Ranked,

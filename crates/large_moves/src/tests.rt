@@ -1,6 +1,7 @@
 //! Moves of two orders by hand, and those of a grid of small instances: each pair of the result is
 //! closed by a plain search through all splits.
-ghost use Rattle.std.specs.Prelude.{◌≡◌, ◌+◌, ◌<◌, ◌≤◌, true, IfOk, IfSome, length, ltb, slice_index};
+ghost use Rattle.std.specs.Prelude.{◌≡◌, ◌+◌, ◌<◌, ◌≤◌, true, length, ltb, slice_index};
+ghost use Rattle.std.specs.Prelude.{IfOk, IfSome};
 ghost use Rattle.std.specs.List.{list_all};
 ghost use Rattle.mill_model.specs.Charges.{Reaches, charge_of};
 ghost use Rattle.mill_model.specs.Instance.{IsOrder, largest, mill_of};
@@ -146,7 +147,8 @@ fn alone(alloc: Global, count: u16) -> Result<Vec<u16>, OutOfMemory>
     Ok(slabs)
 }
 
-// What the orders of two slabs whose bit of the mask is `bit` lose together, if they may lie on one.
+// What the orders of two slabs whose bit of the mask is `bit` lose together, if they may lie on
+// one.
 fn part_loss(
     alloc: Global,
     instance: &Instance,

@@ -85,7 +85,8 @@ module _ (mill : Mill) (charge : ℕ → ℕ) (orders : List Order) (words : ℕ
       ≡ split_loss charge orders marks
   part-loss marks part =
       let sum = loads-add orders marks part.whole in
-      let rest : load orders - load (chosen marks orders) ≡ load (chosen (complement marks) orders) =
+      let rest : load orders - load (chosen marks orders)
+      ≡ load (chosen (complement marks) orders) =
       omega (arith, sum) in
       ap (λ y. charge (load (chosen marks orders)) + charge y) rest
 

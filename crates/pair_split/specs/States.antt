@@ -1,4 +1,5 @@
--- States of splits: what of a split of some orders matters to an order that comes in front of them.
+-- States of splits: what of a split of some orders matters to an order that comes in front of
+-- them.
 use Rattle.std.specs.Prelude.{ℕ, ◌+◌, ◌*◌, ◌≤◌, ◌≡◌, Bool, true, cond, ◌&&◌, List, length}
 use Rattle.list_laws.specs.Sets.{holds, chosen}
 use Rattle.mill_model.specs.Slab.{Mill, load, colours}

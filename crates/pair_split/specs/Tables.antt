@@ -1,5 +1,5 @@
--- Tables of the states that some orders' splits reach. A table has a row of bits for each number of
--- colours on both slabs and each two flags; bit l of a row stands for the load l. Bits of loads
+-- Tables of the states that some orders' splits reach. A table has a row of bits for each number
+-- of colours on both slabs and each two flags; bit l of a row stands for the load l. Bits of loads
 -- past the largest size, and rows of too many colours, say nothing.
 use Rattle.std.specs.Prelude.{ℕ, ◌+◌, ◌-◌, ◌*◌, ◌/◌, ◌%◌, ◌≤◌, ◌≡◌, ◌⊎◌, Bool, List, slice_index}
 use Rattle.std.specs.Int.{bit_at}
@@ -30,12 +30,13 @@ pub record IsTable (mill : Mill) (words : ℕ) (rest : List Order) (table : List
   pub every : (marks : List Bool) → IsPart mill rest marks →
       Marked words table (state_of rest marks)
 
--- the marks of the row of `from` in the old table are set besides in the row of `to`, by the load of
--- `to` higher
+-- the marks of the row of `from` in the old table are set besides in the row of `to`, by the load
+-- of `to` higher
 pub record Pushes (mill : Mill) (words : ℕ) (old before after : List ℕ) (from to : State) : Type 0
   where
     pub kept : (s : State) → IsWithin mill s → Marked words before s → Marked words after s
-    pub here : (l : ℕ) → IsWithin mill (loaded to (to.load + l)) → Marked words old (loaded from l) →
+    pub here : (l : ℕ) → IsWithin mill (loaded to (to.load + l)) →
+        Marked words old (loaded from l) →
         Marked words after (loaded to (to.load + l))
     pub only : (t : State) → IsWithin mill t → Marked words after t → Marked words before t
         ⊎ ((to.load ≤ t.load) × Marked words old (loaded from (t.load - to.load))

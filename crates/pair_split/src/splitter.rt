@@ -1,3 +1,4 @@
+//! A splitter: the tables that the split of two slabs works in, taken once for a mill.
 ghost use Rattle.std.specs.Prelude.{◌≡◌, ◌+◌, ◌<◌, ◌≤◌, true, length, slice_index};
 ghost use Rattle.std.specs.Prelude.{IfOk, IfSome, IfNone};
 ghost use Rattle.mill_model.specs.Charges.{Reaches, charge_of};
@@ -52,9 +53,9 @@ impl Splitter {
         })
     }
 
-    /// The loss of the cheapest split of orders on at most two slabs, if it is below the bound. The
-    /// marks then say which orders lie on the first slab; else they say nothing. The orders of each
-    /// colour stand together. No memory is taken.
+    /// The loss of the cheapest split of orders on at most two slabs, if it is below the bound.
+    /// The marks then say which orders lie on the first slab; else they say nothing. The orders of
+    /// each colour stand together. No memory is taken.
     pub fn better_split(
         &mut self,
         charges: &Charges,

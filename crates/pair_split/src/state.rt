@@ -43,8 +43,8 @@ pub fn state_at(r: usize) -> State
     }
 }
 
-/// The state with one more order on the first slab, which has the colour of the orders' first where
-/// `same`.
+/// The state with one more order on the first slab, which has the colour of the orders' first
+/// where `same`.
 #[inline(always)]
 pub fn on_first(state: State, weight: u32, same: bool) -> State
     requires load { state.load + weight < 2 ^ 32 }

@@ -9,8 +9,9 @@ use Rattle.large_moves.proofs.by_colour.by_colour.Goals as goal
 
 pub loop-rank-preserved : goal.loop-rank-preserved
 loop-rank-preserved c = rw c.in_ok-push.ensures.items
-    (placed-next c.args.ranked.now.placed c.loop-rank.coloured.items c.loop-rank.rank c.order.result
-    c.home.result (omega (arith, c.loop-rank-test.true, c.len-rank-end.ensures.is))
+    (placed-next c.args.ranked.now.placed c.loop-rank.coloured.items c.loop-rank.rank
+    c.order.result c.home.result
+    (omega (arith, c.loop-rank-test.true, c.len-rank-end.ensures.is))
     c.order.ensures.is c.home.ensures.is c.loop-rank.invariant)
 
 pub returns-clause-sorted : goal.returns-clause-sorted

@@ -8,12 +8,20 @@ use Rattle.pair_split.proofs.back.mark_split.Goals as goal
 
 pub step_back-first-requires-clause-at : goal.step_back-first-requires-clause-at
 step_back-first-requires-clause-at c =
-    let w : IsWithin (mill_in c.args.layout) c.loop-i.at = subst (IsWithin (mill_in c.args.layout)) c.loop-i.invariant.reached.2 c.loop-i.invariant.reached.1.within in
+    let w : IsWithin (mill_in c.args.layout) c.loop-i.at =
+    subst (IsWithin (mill_in c.args.layout)) c.loop-i.invariant.reached.2
+    c.loop-i.invariant.reached.1.within in
     w.light
 
 pub step_back-first-requires-clause-comes : goal.step_back-first-requires-clause-comes
-step_back-first-requires-clause-comes c = subst (λ b. Comes (mill_in c.args.layout) c.args.layout.words (get_or c.args.orders.now c.loop-i.i nobody).weight b c.fill_table.new.table c.loop-i.at) (sym (front-next c.args.orders.now c.loop-i.i c.front_at.result c.front_at.ensures))
-    (part-comes (mill_in c.args.layout) c.args.layout.words c.args.orders.now c.loop-i.i c.loop-i-test.true (c.requires.together c.loop-i.i) c.fill_table.new.table (table-at (mill_in c.args.layout) c.args.layout.words c.args.orders.now c.loop-i.i c.fill_table.new.table c.fill_table.ensures.table) c.loop-i.at c.loop-i.invariant.reached)
+step_back-first-requires-clause-comes c =
+    subst (λ b. Comes (mill_in c.args.layout) c.args.layout.words
+    (get_or c.args.orders.now c.loop-i.i nobody).weight b c.fill_table.new.table c.loop-i.at)
+    (sym (front-next c.args.orders.now c.loop-i.i c.front_at.result c.front_at.ensures))
+    (part-comes (mill_in c.args.layout) c.args.layout.words c.args.orders.now c.loop-i.i
+    c.loop-i-test.true (c.requires.together c.loop-i.i) c.fill_table.new.table
+    (table-at (mill_in c.args.layout) c.args.layout.words c.args.orders.now c.loop-i.i
+    c.fill_table.new.table c.fill_table.ensures.table) c.loop-i.at c.loop-i.invariant.reached)
 
 pub loop-i-preserved : goal.loop-i-preserved
 loop-i-preserved c = record {

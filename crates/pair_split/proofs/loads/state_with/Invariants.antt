@@ -5,4 +5,6 @@ use Rattle.pair_split.specs.declared.state.State.{State}
 use Rattle.pair_split.proofs.loads.state_with.Given as goal
 
 abbrev pub invariant-loop-r : goal.invariant-loop-r
-invariant-loop-r l = (s : State) → row s < l.r → IsWithin (mill_in l.layout) s → Marked l.layout.words l.table s → s.load ≡ l.load → ⊥
+invariant-loop-r l =
+    (s : State) → row s < l.r → IsWithin (mill_in l.layout) s → Marked l.layout.words l.table s →
+    s.load ≡ l.load → ⊥

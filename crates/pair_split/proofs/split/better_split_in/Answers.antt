@@ -1,3 +1,6 @@
+-- The cheapest of the loads that the table of all orders marks is the load of a cheapest split. So
+-- where it loses less than the bound, the way back from its state marks such a split; where it
+-- loses no less, or where no load is marked, no split is below the bound.
 use Rattle.std.proofs.Common.{◌≡◌, ◌+◌, ℕ, arith, refl, Some, None, ap, ◌∙◌}
 use Rattle.mill_model.specs.Charges.{charge_of}
 use Rattle.mill_model.specs.Slab.{load}
@@ -32,7 +35,8 @@ state_with-target-requires-clause-some c =
 
 pub mark_split-requires-clause-reached : goal.mark_split-requires-clause-reached
 mark_split-requires-clause-reached c = c.fill_table.ensures.table.found
-    c.state_with-target.result c.state_with-target.ensures.within c.state_with-target.ensures.marked
+    c.state_with-target.result c.state_with-target.ensures.within
+    c.state_with-target.ensures.marked
 
 pub returns-clause-split : goal.returns-clause-split
 returns-clause-split c =

@@ -3,7 +3,10 @@ use Rattle.pair_split.proofs.Pushed.{spreads-first, spreads-less, spreads-nothin
 use Rattle.pair_split.proofs.spread.spread.Goals as goal
 
 pub loop-first-init : goal.loop-first-init
-loop-first-init c = record { spreads = spreads-nothing _ _ _ _ _ _ _ (λ s q. absurd (omega (arith, q))); size = refl }
+loop-first-init c = record {
+  spreads = spreads-nothing _ _ _ _ _ _ _ (λ s q. absurd (omega (arith, q)));
+  size = refl;
+}
 
 pub loop-first-preserved : goal.loop-first-preserved
 loop-first-preserved c = record {
@@ -12,4 +15,6 @@ loop-first-preserved c = record {
 }
 
 pub returns : goal.returns
-returns c = spreads-less _ _ _ _ _ _ _ _ _ c.loop-first.invariant.spreads (λ s q h. omega (arith, q, c.loop-first-test.false))
+returns c =
+    spreads-less _ _ _ _ _ _ _ _ _ c.loop-first.invariant.spreads
+    (λ s q h. omega (arith, q, c.loop-first-test.false))

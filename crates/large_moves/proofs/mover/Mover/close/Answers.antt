@@ -1,3 +1,6 @@
+-- Scan after scan. A scan that changes a pair loses at least one less, and takes no more tries
+-- than there are pairs of slabs; so the tries that are left fall by that many at most for each
+-- unit of loss. The last scan finds all pairs closed, or spends the tries that are left.
 use Rattle.std.proofs.Common.{◌≤◌, ◌+◌, ◌-◌, ◌*◌, ℕ, length, subst, sym, ap, ◌∙◌, arith}
 use Rattle.mill_model.specs.Charges.{charge_of}
 use Rattle.mill_model.specs.Pairs.{pairs_of}

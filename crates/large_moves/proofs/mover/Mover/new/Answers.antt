@@ -1,5 +1,6 @@
 -- A mover for orders by colour: they are laid, and what it holds is of their number.
-use Rattle.std.proofs.Common.{◌≡◌, ◌<◌, ◌≤◌, true, ℕ, All, length, get_or, subst, sym, ap, ◌∙◌, rules}
+use Rattle.std.proofs.Common.{◌≡◌, ◌<◌, ◌≤◌, true, ℕ, All, length, get_or, subst, sym, ap, ◌∙◌}
+use Rattle.std.proofs.Common.{rules}
 use Rattle.mill_model.specs.Instance.{IsOrder}
 use Rattle.mill_model.specs.Plan.{numbers_each, slab}
 use Rattle.mill_model.specs.Slab.{load}

@@ -1,3 +1,6 @@
+-- A row: the pairs of one slab with those from it on. The pairs before b are closed, and each took
+-- at most one try; so where the tries are spent, or a pair changes, at b, the pairs before it and
+-- the rest after it are put round that one pair.
 use Rattle.std.proofs.Common.{ℕ, suc, length, arith, subst, sym, refl}
 use Rattle.mill_model.specs.Charges.{charge_of}
 use Rattle.mill_model.specs.Pairs.{pairs_with, pair_at}

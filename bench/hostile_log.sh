@@ -11,7 +11,8 @@
 #   heavy     one record behind 512 heavy orders in groups of their own, which leave little room:
 #             512 light orders of other colours are to come
 #   own       one record behind 512 orders of more than half a slab, each with a colour of its own
-#             that comes again: no two groups share a table, so this is the dearest record known
+#             that comes again: no two groups share a table. Groups that leave nearly a whole slab
+#             would cost twice as much, but there each sibling on the way needs a record, too.
 . "$(dirname "$0")/workspace.sh"
 
 product

@@ -96,7 +96,8 @@ module _ (mill : Mill) (ranked : List Order) (path : List ℕ) where
   pub first_group-new : (g : ℕ) → g ≡ next_new path →
       ((k : ℕ) → k < g → stays_legal mill ranked path k ≡ false) → g ≡ first_group mill ranked path
   first_group-new g e lower =
-      rw (find-none (stays_legal mill ranked path) (next_new path) (λ k l. lower k (omega arith))) e
+      rw (find-none (stays_legal mill ranked path) (next_new path)
+      (λ k l. lower k (omega arith))) e
 
 -- best fit
 less-not : (a b : ℤ) → a <ℤ b → int_le b a ≡ false
@@ -134,7 +135,8 @@ module _ (mill : Mill) (charge : ℕ → ℕ) (ranked : List Order) (path : List
     stays = rw is stays;
     adds = rw is adds;
     least = λ g low high there.
-        let same : g ≡ next_new path = omega arith in rw (adds, same) (le-self (added (next_new path)));
+        let same : g ≡ next_new path = omega arith in
+        rw (adds, same) (le-self (added (next_new path)));
     lowest = λ g low high there. absurd (omega arith);
   }
 
@@ -187,8 +189,9 @@ module _ (mill : Mill) (charge : ℕ → ℕ) (ranked : List Order) (path : List
       | inl e ↦ Among-append_right g (filter (stays_legal mill ranked path)
           (below (next_new path))) (next_new path ∷ []) (inl e)
       | inr l ↦ Among-append_left g (filter (stays_legal mill ranked path)
-          (below (next_new path))) (next_new path ∷ []) (Among-filter (stays_legal mill ranked path)
-          g (below (next_new path)) stays (among-below g (next_new path) l))
+          (below (next_new path))) (next_new path ∷ [])
+          (Among-filter (stays_legal mill ranked path) g (below (next_new path)) stays
+          (among-below g (next_new path) l))
     ]
 
     candidate-high : (g : ℕ) → Among g groups → g ≤ next_new path

@@ -1,6 +1,6 @@
 -- Paths that place all orders, and the better of two.
-use Rattle.std.proofs.Common.{ℕ, suc, ◌<◌, ◌≤◌, ◌≡◌, true, false, cond, List, length, leb, ltb, ◌∙◌}
-use Rattle.std.proofs.Common.{sym, subst, arith, inl, inr, leb-true, leb-false, lt-ltb}
+use Rattle.std.proofs.Common.{ℕ, suc, ◌<◌, ◌≤◌, ◌≡◌, true, false, cond, List, length, leb, ltb}
+use Rattle.std.proofs.Common.{◌∙◌, sym, subst, arith, inl, inr, leb-true, leb-false, lt-ltb}
 use Rattle.std.proofs.lemmas.Bool.Decides.{nat_tests}
 use Rattle.std.proofs.lemmas.List.{length-map}
 use Rattle.mill_model.specs.Slab.{Mill, legal}

@@ -1,3 +1,4 @@
+//! Paths under way, and the groups that first fit and best fit give the next order.
 ghost use Rattle.std.specs.Prelude.{◌≡◌, ◌≤◌, ◌<◌, ◌+◌, ◌++◌, ◌∷◌, [], List, Some, true, All};
 ghost use Rattle.std.specs.Prelude.{length, IfOk};
 ghost use Rattle.std.specs.Prelude.{pos, ◌-ℤ◌, slice_get, slice_index};

@@ -1,3 +1,4 @@
+//! The first-fit plan, and the better of the plans that first fit and best fit give.
 ghost use Rattle.std.specs.Prelude.{◌≡◌, ◌≤◌, ◌+◌, All, List, IfOk, length, slice_index};
 ghost use Rattle.mill_model.specs.Charges.{Reaches, charge_of};
 ghost use Rattle.mill_model.specs.Plan.{IsLegalPlan, loss};

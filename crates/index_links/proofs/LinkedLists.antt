@@ -188,7 +188,8 @@ pub chain-without : (nexts previous nexts' previous' : List (Option ℕ)) (o : �
     Chain nexts previous before at (xs ++ o ∷ ys) →
     Chain nexts' previous' before (begin xs (look nexts o) at) (xs ++ ys)
 chain-without nexts previous nexts' previous' o before at [] ys a n m last p q first c =
-    chain-behind nexts previous nexts' previous' (Some o) before (look nexts o) ys a.1 m q first c.2
+    chain-behind nexts previous nexts' previous' (Some o) before (look nexts o) ys
+    a.1 m q first c.2
 chain-without nexts previous nexts' previous' o before at (x ∷ []) ys a n m last p q first c = (
   c.0,
   p x (holds-first x []) ∙ c.1,

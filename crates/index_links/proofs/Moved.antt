@@ -1,7 +1,7 @@
 -- The lists once an order went to the front of one.
 use Rattle.std.proofs.Common.{ℕ, ◌<◌, ◌≡◌, ◌≢◌, Bool, true, false, cond, ◌&&◌, ◌||◌, List, [], ◌∷◌}
-use Rattle.std.proofs.Common.{length, map, set, get_or, eqb, Option, Some, None, refl, sym, ap, ◌∙◌}
-use Rattle.std.proofs.Common.{subst, inl, inr, arith, eq-eqb, eqb-true, ne_eqb, false-eqb}
+use Rattle.std.proofs.Common.{length, map, set, get_or, eqb, Option, Some, None, refl, sym, ap}
+use Rattle.std.proofs.Common.{◌∙◌, subst, inl, inr, arith, eq-eqb, eqb-true, ne_eqb, false-eqb}
 use Rattle.std.specs.Prelude.{IfSome}
 use Rattle.std.specs.List.{All}
 use Rattle.std.proofs.lemmas.List.{get_or-map, get_or-set_same, get_or-set_other, length-set}
@@ -127,12 +127,14 @@ module _ (firsts nexts previous : List (Option ℕ)) (slabs : List ℕ) (lists :
   pub next-low : (z : ℕ) → look nexts o ≡ Some z → z < n
   next-low z e =
       is.orders t z left-low
-      (next-there n firsts nexts previous (list_at lists) is.chained is.apart one o t left-low there z e)
+      (next-there n firsts nexts previous (list_at lists) is.chained is.apart one
+      o t left-low there z e)
 
   pub before-low : (z : ℕ) → look previous o ≡ Some z → z < n
   before-low z e =
       is.orders t z left-low
-      (before-there n firsts nexts previous (list_at lists) is.chained is.apart one o t left-low there z e)
+      (before-there n firsts nexts previous (list_at lists) is.chained is.apart one
+      o t left-low there z e)
 
   -- the tables without the order
   abbrev firsts1 : List (Option ℕ)
@@ -200,7 +202,8 @@ module _ (firsts nexts previous : List (Option ℕ)) (slabs : List ℕ) (lists :
 
   at : (r : ℕ) → r < n →
       list_at (moved o s lists) r ≡ cond (eqb r s) (o ∷ lists1 s) (lists1 r)
-  at r low = moved-at o s r lists (omega (arith, slab, lists-long)) (omega (arith, low, lists-long))
+  at r low =
+      moved-at o s r lists (omega (arith, slab, lists-long)) (omega (arith, low, lists-long))
 
   moved-apart : (r : ℕ) → r < n → Apart (cond (eqb r s) (o ∷ lists1 s) (lists1 r))
   moved-apart r low = elim (either (eqb r s)) [

@@ -1,8 +1,8 @@
 -- What linked tables tell of their lists: the plan that these stand for, and that each order is in
 -- exactly one of them.
-use Rattle.std.proofs.Common.{ℕ, zero, suc, ◌<◌, ◌≤◌, ◌≡◌, true, false, List, [], ◌∷◌, ◌++◌, length}
-use Rattle.std.proofs.Common.{get_or, eqb, Option, Some, None, refl, sym, ap, ◌∙◌, arith, subst}
-use Rattle.std.proofs.Common.{inl, inr, eq-eqb, ne_eqb}
+use Rattle.std.proofs.Common.{ℕ, zero, suc, ◌<◌, ◌≤◌, ◌≡◌, true, false, List, [], ◌∷◌, ◌++◌}
+use Rattle.std.proofs.Common.{length, get_or, eqb, Option, Some, None, refl, sym, ap, ◌∙◌, arith}
+use Rattle.std.proofs.Common.{subst, inl, inr, eq-eqb, ne_eqb}
 use Rattle.std.proofs.lemmas.List.{get_or-map, get_or_append_left, get_or_default, length-map}
 use Rattle.std.proofs.lemmas.List.{same_lists}
 use Rattle.std.proofs.lemmas.List.Elements.{All-get_or}
@@ -105,7 +105,8 @@ module _ (firsts nexts previous : List (Option ℕ)) (slabs : List ℕ) (lists :
       length-below (length lists) ∙ is.lists_count in
       same_lists (plan_of lists) slabs
       (length-map (below (length lists)) (slab_in lists) ∙ count ∙ sym is.slabs_count)
-      (λ o d l. at o d (omega (arith, l, length-map (below (length lists)) (slab_in lists), count)))
+      (λ o d l. at o d
+      (omega (arith, l, length-map (below (length lists)) (slab_in lists), count)))
     where
       at : (o d : ℕ) → o < length nexts → get_or (plan_of lists) o d ≡ get_or slabs o d
       at o d l =
@@ -130,7 +131,8 @@ module _ (firsts nexts previous : List (Option ℕ)) (slabs : List ℕ) (lists :
   first-in-range s z l e =
       is.orders s z l
       (first-holds (list_at lists s) z
-      (sym (chain-first nexts previous None (look firsts s) (list_at lists s) (is.chained s l)) ∙ e))
+      (sym (chain-first nexts previous None (look firsts s) (list_at lists s) (is.chained s l))
+      ∙ e))
 
   pub next-in-range : (o z : ℕ) → o < length nexts → look nexts o ≡ Some z → z < length nexts
   next-in-range o z l e =

@@ -1,3 +1,4 @@
+//! Chains of orders, linked both ways: one for each slab.
 ghost use Rattle.std.specs.Prelude.{◌≡◌, ◌<◌, Some, None, cond, length, replicate, IfOk, IfSome};
 ghost use Rattle.std.specs.Prelude.{slice_set};
 ghost use Rattle.index_links.specs.Links.{is_none, look, set_at};

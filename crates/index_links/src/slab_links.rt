@@ -1,3 +1,4 @@
+//! The lists of a plan: chains of orders by slab, and of each order its slab.
 ghost use Rattle.std.specs.Prelude.{◌≡◌, ◌<◌, ◌≤◌, All, IfOk, IfSome, length, slice_get};
 ghost use Rattle.std.specs.Prelude.{slice_set};
 ghost use Rattle.mill_model.specs.declared.order.TheConstants.{MAX_ORDERS};
@@ -9,9 +10,9 @@ use mill_model::{OutOfMemory, Plan};
 use std::alloc::Global;
 use std::marker::Model;
 
-/// The orders of each slab of a plan as a list, doubly linked through the order numbers, so that an
-/// order goes from one list to another in a fixed number of steps. It is seen as these lists, and
-/// each order is in exactly one.
+/// The orders of each slab of a plan as a list, doubly linked through the order numbers, so that
+/// an order goes from one list to another in a fixed number of steps. It is seen as these lists,
+/// and each order is in exactly one.
 #[derive(Debug, Drop)]
 pub struct SlabLinks {
     chains: Chains,

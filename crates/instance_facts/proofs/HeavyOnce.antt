@@ -25,7 +25,8 @@ heavy-outside problem place n first below light =
     omega arith
 
 -- of two first ones none comes before the other
-pub heavy-once : (problem : Problem) (a b : ℕ) → IsFirstHeavy problem a → IsFirstHeavy problem b → a ≡ b
+pub heavy-once : (problem : Problem) (a b : ℕ) → IsFirstHeavy problem a →
+    IsFirstHeavy problem b → a ≡ b
 heavy-once problem a b first second = elim (cases_order a b) [
   | inl same ↦ same
   | inr rest ↦ elim rest [

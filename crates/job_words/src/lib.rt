@@ -4,6 +4,7 @@
 
 mod command;
 mod job;
+mod laws;
 mod numbers;
 mod option;
 mod read;
@@ -12,6 +13,7 @@ mod usage;
 
 pub use command::Command;
 pub use job::{Job, Usage};
+pub use laws::rules_of_the_options;
 pub use read::read_words;
 pub use usage::write_usage;
 

@@ -12,7 +12,8 @@ use Rattle.judge_answer.specs.Verify.{loss_task, IsVerified, IsFirstFault}
 module _ (problem : Problem) (table : ℕ → ℕ) (same : table ≡ loss_charge problem.sizes) where
   -- a legal plan
   pub tabled-legal : (plan : List ℕ) (loss : ℕ) →
-      IsPlanWithLoss (mill_of problem) table problem.orders plan loss → IsLegalWith problem plan loss
+      IsPlanWithLoss (mill_of problem) table problem.orders plan loss →
+      IsLegalWith problem plan loss
   tabled-legal plan loss legal =
       subst (λ charge. IsPlanWithLoss (mill_of problem) charge problem.orders plan loss) same legal
 

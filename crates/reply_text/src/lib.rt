@@ -3,6 +3,7 @@
 #![tactic(auto)]
 
 mod judgement;
+mod laws;
 mod line;
 mod outcome;
 mod refusal;
@@ -11,6 +12,7 @@ mod status;
 mod stop;
 
 pub use judgement::Judgement;
+pub use laws::status_numbers;
 pub use outcome::Outcome;
 pub use refusal::Refusal;
 pub use reply::Reply;

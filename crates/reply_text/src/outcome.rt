@@ -13,7 +13,7 @@ use std::alloc::Global;
 pub enum Outcome {
     /// The input is refused.
     Refused(Refusal),
-    /// A plan of the least loss or the best so far, or that there is no legal plan.
+    /// A plan that loses least, or one that a bounded search gives, or that there is no legal plan.
     Solved(Answer),
     /// What is said of the answer that was given.
     Judged(Judgement),

@@ -1,4 +1,4 @@
-//! The statuses that the program ends with. Each number stands here alone.
+//! The statuses that the program ends with, but for the one where the system gives no words.
 
 /// A plan was written that loses least.
 pub const OPTIMAL: u8 = 0;
@@ -15,7 +15,7 @@ pub const WRONG_WORDS: u8 = 2;
 /// The input was refused.
 pub const REFUSED: u8 = 3;
 
-/// A plan was written where a search spent its budget and a path was left.
+/// A plan was written, and the budget of its search was less than is always enough.
 pub const FEASIBLE: u8 = 4;
 
 /// A read failed.

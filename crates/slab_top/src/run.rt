@@ -1,4 +1,4 @@
-ghost use Rattle.std.specs.Prelude.{◌≡◌, ◌≢◌, List, ◌≤◌, Err, length, IfOk, IfSome, IsSome, OnOk};
+ghost use Rattle.std.specs.Prelude.{◌≡◌, ◌≢◌, ◌≤◌, Err, length, IfOk, IfSome, IsSome, OnOk};
 ghost use Rattle.std.specs.Prelude.{IsErrOf};
 ghost use Rattle.std.specs.Io.KnownBytes.{Appends, IsAtEnd};
 ghost use Rattle.mill_io.specs.Causes.{Rose};
@@ -79,7 +79,7 @@ fn write_out<K: Sink>(sink: &mut K, reply: &Reply) -> u8
 /// | 1 | `solve` or `prove` wrote the first order that no slab holds |
 /// | 2 | the words ask for nothing that the program does |
 /// | 3 | the input was refused |
-/// | 4 | `solve` or `prove` wrote a feasible plan: its budget was spent and a path was left |
+/// | 4 | `solve` or `prove` wrote a feasible plan: its budget is less than is always enough |
 /// | 5 | a read failed; nothing was written |
 /// | 6 | a write failed; a front of the text was written |
 /// | 7 | want of memory; nothing was written |

@@ -36,7 +36,8 @@ module _ (problem : Problem) where
   pub record HasFound (charge : ℕ → ℕ) (nodes : ℕ) (best : Start) (waiting : List (List ℕ))
       (closed : ℕ) : Type 0 where
     pub plan : IsFoundPlan charge best
-    pub no_worse : best.loss ≤ loss_alone (mill_of problem) (loss_charge problem.sizes) problem.orders
+    pub no_worse :
+        best.loss ≤ loss_alone (mill_of problem) (loss_charge problem.sizes) problem.orders
     pub least : waiting ≡ [] → NoneLosesLess (mill_of problem) charge problem.orders best.loss
     pub few : closed ≤ 1000000000
     pub spent : 0 < length waiting → closed ≡ nodes

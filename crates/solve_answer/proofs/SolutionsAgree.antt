@@ -1,5 +1,5 @@
--- Right answers to a problem agree: it has a heavy order, or none; and a best plan loses no more than
--- any other.
+-- Right answers to a problem agree: it has a heavy order, or none; and a best plan loses no more
+-- than any other.
 use Rattle.std.proofs.Common.{ℕ, ◌≤◌, List, sym, ap, ◌∙◌, subst, arith}
 use Rattle.mill_model.specs.Best.{IsTidyPlan, IsBest}
 use Rattle.mill_model.specs.Instance.{Problem, mill_of, loss_charge}

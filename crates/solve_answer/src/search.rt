@@ -11,7 +11,7 @@ use refute_log::Log;
 use std::alloc::Global;
 use tree_search::{Found, prove_tree, search_tree};
 
-/// The answer to an instance: a best plan, or the best that was found until `limits.nodes` paths of
+/// The answer to an instance: a best plan, or what was found until `limits.nodes` paths of
 /// the tree were closed.
 pub fn solve(alloc: Global, instance: &Instance, limits: Limits) -> Result<Answer, OutOfMemory>
     requires { limits.nodes ≤ 1000000000 }
@@ -59,7 +59,7 @@ pub fn prove(alloc: Global, instance: &Instance, limits: Limits) -> Result<Answe
 }
 
 // The answer that a search has found: a best plan where no path waits, with this log if there is
-// one, and else the best so far.
+// one, and else the plan that was found.
 fn answer_of(alloc: Global, found: Found, log: Option<Log>) -> Result<Answer, OutOfMemory>
     requires { All (λ s. s < length found.best.plan) found.best.plan }
     ensures { IfOk result (λ answer.

@@ -10,7 +10,8 @@ use reply_text::{Outcome, Stop};
 use solve_answer::solve;
 use std::alloc::Global;
 
-/// Answers an instance: with a best plan, or the best that was found within the budget.
+/// Answers an instance: with a best plan, or where the budget is spent first with a legal one that
+/// loses no more than each order alone.
 pub fn serve(alloc: Global, job: Job, input: &[u8]) -> Result<Outcome, Stop>
     requires in_range { IsInRange job }
     ensures reply { IsReply (Solves job input.now) result }

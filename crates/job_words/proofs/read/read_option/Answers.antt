@@ -1,3 +1,5 @@
+-- One option more: either the words up to it and its number read on, or the first wrong word is its
+-- name, which may be none or a repeated one, or its number, which may be missing.
 use Rattle.std.proofs.Common.{◌≡◌, ℕ, ◌+◌, ◌++◌, ◌∷◌, [], cond, false, sym, ap, ap₂, ◌∙◌, refl}
 use Rattle.std.proofs.Common.{subst, arith}
 use Rattle.std.specs.Prelude.{Option, Some, None, is_some}

@@ -1,3 +1,4 @@
+-- The instance in front is read first. A refusal is that of the first reader that refuses.
 use Rattle.std.specs.Prelude.{Err}
 use Rattle.std.proofs.Common.{◌≡◌, length, refl, ap, sym, subst, rules}
 use Rattle.line_text.specs.Lines.{text_lines}

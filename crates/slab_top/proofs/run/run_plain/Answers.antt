@@ -1,3 +1,5 @@
+-- What the parts of the call give, put together: an output that is right, that every right one
+-- agrees with it, and the cause of each failure.
 use Rattle.std.proofs.Common.{◌∙◌, refl, sym, subst}
 use Rattle.std.specs.Io.KnownBytes.{Appends}
 use Rattle.mill_io.specs.Bytes.{AppendsFront}

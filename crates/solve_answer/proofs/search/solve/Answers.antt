@@ -1,3 +1,5 @@
+-- What the search found by the table of charges is so by the charge of the definition, since the
+-- table is that charge; and what was found is what is answered.
 use Rattle.std.proofs.Common.{◌≡◌, length, vec_len, rules, arith, refl, sym, subst}
 use Rattle.std.specs.Prelude.{None}
 use Rattle.mill_model.specs.Charges.{charge_of}

@@ -7,6 +7,7 @@ use Rattle.greedy_start.proofs.open_path.OpenPath.best_fit.Given as goal
 abbrev pub invariant-loop-rank : goal.invariant-loop-rank
 invariant-loop-rank l = record {
   ranked : l.path.ranked.now ≡ l.ranked;
-  numbers : l.path.numbers.items ≡ best_fit l.ranked.mill (charge_of l.charges) (orders_of l.ranked) l.rank;
+  numbers : l.path.numbers.items
+      ≡ best_fit l.ranked.mill (charge_of l.charges) (orders_of l.ranked) l.rank;
   long : length l.path.numbers.items ≡ l.rank;
 }

@@ -1,3 +1,5 @@
+-- The groups are gone through from the highest to the lowest. The new slab stays legal, so it is
+-- the first choice; behind the loop the choice is the best of all groups.
 use Rattle.std.proofs.Common.{ℕ, ◌≡◌, length, subst, sym, ◌∙◌, arith, rules, to_z}
 use Rattle.std.proofs.Common.{of_z, w64}
 use Rattle.mill_model.specs.Charges.{charge_of}
@@ -54,8 +56,8 @@ returns c =
     subst (λ k. IsBestFrom node.ranked.mill charge (orders_of node.ranked) node.path k
     c.loop-group.best) all c.loop-group.invariant in
     record {
-      is = best_group-is node.ranked.mill charge (orders_of node.ranked) node.path c.loop-group.best
-          best stays;
+      is = best_group-is node.ranked.mill charge (orders_of node.ranked) node.path
+          c.loop-group.best best stays;
       number = best.high;
       stays = best.stays;
     }

@@ -1,3 +1,5 @@
+-- One group more: the choice among the groups above it is kept where the slab of this group
+-- doesn't stay legal or adds more charge, and else this group is taken, as the lower one.
 use Rattle.std.proofs.Common.{ℕ, ◌≡◌, ◌<ℤ◌, ◌≤ℤ◌, ◌∙◌, true, false, sym, subst, ℤ, w64}
 use Rattle.std.proofs.Common.{to_z, of_z, rules}
 use Rattle.mill_model.specs.Charges.{charge_of}

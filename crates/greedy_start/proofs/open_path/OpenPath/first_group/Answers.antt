@@ -1,3 +1,5 @@
+-- The slabs are tried from the lowest group on: those before don't stay legal. So the first that
+-- fits is the group of first fit, and where none fits, the new slab is.
 use Rattle.std.proofs.Common.{◌≡◌, ◌<◌, ◌≤◌, length, sym, ◌∙◌, arith, inl, inr, subst, rules, true}
 use Rattle.std.proofs.Common.{false, ℕ}
 use Rattle.mill_model.specs.Starts.{stays_legal}

@@ -1,3 +1,5 @@
+-- The group stays legal with the order, so its slab takes the order, and a new group begins with
+-- an empty slab. The slabs are then those of the groups of the longer path.
 use Rattle.std.proofs.Common.{◌≡◌, ◌≤◌, ◌+◌, ◌∷◌, [], length, arith, ap, ◌∙◌}
 use Rattle.std.proofs.lemmas.List.{length-append, length-map}
 use Rattle.std.proofs.lemmas.Option.{slice_get_within}
@@ -59,7 +61,13 @@ invariant_of-result c =
     record {
       are_groups = rw (c.in_ok-push.ensures.items, c.in_ok-join_group.ensures) grown;
       few_groups = omega (arith, long, many, more, low, c.args.self.few_groups);
-      within = omega (arith, long, slice_get_within (orders_of node.ranked) (length node.path) c.args.order c.requires.next, length-map node.ranked.placed (λ p. p.order));
+      within = omega (
+        arith,
+        long,
+        slice_get_within (orders_of node.ranked) (length node.path)
+            c.args.order c.requires.next,
+        length-map node.ranked.placed (λ p. p.order),
+      );
       few_orders = c.args.self.few_orders;
       some_colour = c.args.self.some_colour;
     }

@@ -1,3 +1,5 @@
+-- The charges of the groups are added up, each within a limit, so that the sum doesn't overflow.
+-- The path has placed all orders, so what its groups are charged is what it loses.
 use Rattle.std.proofs.Common.{◌≡◌, ◌<◌, ◌≤◌, ◌+◌, ◌*◌, ◌^◌, length, get_or, ap, ◌∙◌, sym, arith}
 use Rattle.std.proofs.Common.{rules}
 use Rattle.split_tree.specs.Node.{Node}
@@ -35,7 +37,12 @@ overflow_add-loss c =
     let below : c.loop-group.group-index < length c.args.self.now.groups.items =
     rw value at c.loop-group-test.true in
     let few : length c.args.self.now.groups.items ≤ 1024 =
-    omega (arith, c.args.self.now.few_groups, c.args.self.now.within, c.args.self.now.few_orders) in
+    omega (
+      arith,
+      c.args.self.now.few_groups,
+      c.args.self.now.within,
+      c.args.self.now.few_orders,
+    ) in
     let most : c.loop-group.loss ≤ 100000000 * c.loop-group.group-index =
     c.loop-group.invariant.most in
     let limit : c.charge-loss.result ≤ 100000000 = c.charge-loss.ensures.limit in

@@ -21,6 +21,7 @@ returns-clause-low c =
     ∙ get_or_default c.self.inside.chains.firsts.items c.args.slab c.index.result.now None
     (omega (arith, low, c.self.invariant.firsts_count)) in
     if-some c.index.result.now (λ order. order < length c.args.self.now)
-    (λ z e. let within = first-in-range c.self.inside.chains.firsts.items c.self.inside.chains.nexts.items
+    (λ z e.
+    let within = first-in-range c.self.inside.chains.firsts.items c.self.inside.chains.nexts.items
     c.self.inside.chains.previous.items c.self.inside.slabs.items
     _ c.self.invariant c.args.slab z low (sym at ∙ e) in omega (arith, within, count))

@@ -1,3 +1,6 @@
+-- An order is taken out of the chain of its old slab and put first in that of its new one. The
+-- laws of Moved say what the two steps make of all chains; here the tables of the struct, and the
+-- lists that it is seen as, are put for those of the laws.
 use Rattle.std.proofs.Common.{◌≡◌, ◌<◌, ◌∙◌, length, get_or, slice_set, refl, sym, subst, ap}
 use Rattle.std.proofs.Common.{arith}
 use Rattle.std.proofs.lemmas.List.{get_or_default}
@@ -135,7 +138,8 @@ returns-clause-plan c =
     (slice_set c.self.inside.slabs.items c.args.order c.args.slab) _ linked
     ∙ ap (λ plan. slice_set plan c.args.order c.args.slab)
     (sym (plan-is c.self.inside.chains.firsts.items c.self.inside.chains.nexts.items
-    c.self.inside.chains.previous.items c.self.inside.slabs.items _ c.self.invariant) ∙ ap plan_of c.self.view_is)
+    c.self.inside.chains.previous.items c.self.inside.slabs.items _ c.self.invariant)
+    ∙ ap plan_of c.self.view_is)
 
 pub returns-clause-kept : goal.returns-clause-kept
 returns-clause-kept c =

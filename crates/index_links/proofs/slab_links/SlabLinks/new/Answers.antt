@@ -1,5 +1,8 @@
-use Rattle.std.proofs.Common.{List, ℕ, suc, Some, None, ◌≡◌, ◌<◌, ◌≤◌, ◌-◌, ◌∙◌, length, get_or, set, sym}
-use Rattle.std.proofs.Common.{subst, ap, arith, rules}
+-- The orders are linked from the last to the first, each in front of its slab's chain, so that
+-- the chains rise. The tables are at each step those of the orders behind (AreMade); at the first
+-- order they are those of the whole plan, of which all clauses then speak.
+use Rattle.std.proofs.Common.{List, ℕ, suc, Some, None, ◌≡◌, ◌<◌, ◌≤◌, ◌-◌, ◌∙◌, length, get_or}
+use Rattle.std.proofs.Common.{set, sym, subst, ap, arith, rules}
 use Rattle.std.specs.List.{All}
 use Rattle.std.proofs.lemmas.List.{get_or_default}
 use Rattle.mill_model.specs.declared.order.TheConstants.{MAX_ORDERS}
@@ -18,11 +21,13 @@ link-requires-clause-first c =
     let few : c.len-order.result ≡ length c.in_ok-slabs.slabs.items = search rules in
     let here : c.loop-order.order - 1 < length c.in_ok-slabs.slabs.items = omega arith in
     let next : c.loop-order.order ≡ suc (c.loop-order.order - 1) = omega arith in
-    let made = subst (λ (k : ℕ). AreMade c.in_ok-slabs.slabs.items k c.loop-order.chains.firsts.items c.loop-order.chains.nexts.items
+    let made = subst (λ (k : ℕ). AreMade c.in_ok-slabs.slabs.items k
+    c.loop-order.chains.firsts.items c.loop-order.chains.nexts.items
     c.loop-order.chains.previous.items) next c.loop-order.invariant in
     let at : c.index.result.now ≡ get_or c.in_ok-slabs.slabs.items (c.loop-order.order - 1) 0 =
     c.index.ensures
-    ∙ get_or_default c.in_ok-slabs.slabs.items (c.loop-order.order - 1) c.index.result.now 0 here in
+    ∙ get_or_default c.in_ok-slabs.slabs.items (c.loop-order.order - 1)
+    c.index.result.now 0 here in
     if-some _ (λ other. other < length c.loop-order.chains.nexts.items)
     (λ z e. let within = first-made c.in_ok-slabs.slabs.items (c.loop-order.order - 1)
     c.loop-order.chains.firsts.items c.loop-order.chains.nexts.items
@@ -38,11 +43,13 @@ loop-order-preserved c =
     let few : c.len-order.result ≡ length c.in_ok-slabs.slabs.items = search rules in
     let here : c.loop-order.order - 1 < length c.in_ok-slabs.slabs.items = omega arith in
     let next : c.loop-order.order ≡ suc (c.loop-order.order - 1) = omega arith in
-    let made = subst (λ (k : ℕ). AreMade c.in_ok-slabs.slabs.items k c.loop-order.chains.firsts.items c.loop-order.chains.nexts.items
+    let made = subst (λ (k : ℕ). AreMade c.in_ok-slabs.slabs.items k
+    c.loop-order.chains.firsts.items c.loop-order.chains.nexts.items
     c.loop-order.chains.previous.items) next c.loop-order.invariant in
     let at : c.index.result.now ≡ get_or c.in_ok-slabs.slabs.items (c.loop-order.order - 1) 0 =
     c.index.ensures
-    ∙ get_or_default c.in_ok-slabs.slabs.items (c.loop-order.order - 1) c.index.result.now 0 here in
+    ∙ get_or_default c.in_ok-slabs.slabs.items (c.loop-order.order - 1)
+    c.index.result.now 0 here in
     made-more c.in_ok-slabs.slabs.items (c.loop-order.order - 1)
     c.loop-order.chains.firsts.items c.loop-order.chains.nexts.items
     c.loop-order.chains.previous.items here low made
@@ -63,11 +70,14 @@ invariant_of-result c =
     let first : c.loop-order.order ≡ 0 = omega arith in
     let few : length c.in_ok-slabs.slabs.items ≤ MAX_ORDERS =
     subst (λ (plan : List ℕ). length plan ≤ MAX_ORDERS) same c.requires.few in
-    let made = subst (λ (k : ℕ). AreMade c.in_ok-slabs.slabs.items k c.loop-order.chains.firsts.items c.loop-order.chains.nexts.items
+    let made = subst (λ (k : ℕ). AreMade c.in_ok-slabs.slabs.items k
+    c.loop-order.chains.firsts.items c.loop-order.chains.nexts.items
     c.loop-order.chains.previous.items) first c.loop-order.invariant in
-    let linked = made-linked c.in_ok-slabs.slabs.items c.loop-order.chains.firsts.items c.loop-order.chains.nexts.items
+    let linked = made-linked c.in_ok-slabs.slabs.items
+    c.loop-order.chains.firsts.items c.loop-order.chains.nexts.items
     c.loop-order.chains.previous.items few low made in
-    subst (λ (lists : List (List ℕ)). IsLinked c.loop-order.chains.firsts.items c.loop-order.chains.nexts.items
+    subst (λ (lists : List (List ℕ)).
+    IsLinked c.loop-order.chains.firsts.items c.loop-order.chains.nexts.items
     c.loop-order.chains.previous.items c.in_ok-slabs.slabs.items lists)
     (sym (lists-are c.loop-order.chains.firsts.items c.loop-order.chains.nexts.items
     c.loop-order.chains.previous.items c.in_ok-slabs.slabs.items _ linked)) linked
@@ -80,9 +90,11 @@ returns-clause-lists c =
     let first : c.loop-order.order ≡ 0 = omega arith in
     let few : length c.in_ok-slabs.slabs.items ≤ MAX_ORDERS =
     subst (λ (plan : List ℕ). length plan ≤ MAX_ORDERS) same c.requires.few in
-    let made = subst (λ (k : ℕ). AreMade c.in_ok-slabs.slabs.items k c.loop-order.chains.firsts.items c.loop-order.chains.nexts.items
+    let made = subst (λ (k : ℕ). AreMade c.in_ok-slabs.slabs.items k
+    c.loop-order.chains.firsts.items c.loop-order.chains.nexts.items
     c.loop-order.chains.previous.items) first c.loop-order.invariant in
-    let linked = made-linked c.in_ok-slabs.slabs.items c.loop-order.chains.firsts.items c.loop-order.chains.nexts.items
+    let linked = made-linked c.in_ok-slabs.slabs.items
+    c.loop-order.chains.firsts.items c.loop-order.chains.nexts.items
     c.loop-order.chains.previous.items few low made in
     lists-are c.loop-order.chains.firsts.items c.loop-order.chains.nexts.items
     c.loop-order.chains.previous.items c.in_ok-slabs.slabs.items _ linked
@@ -96,9 +108,11 @@ returns-clause-plan c =
     let first : c.loop-order.order ≡ 0 = omega arith in
     let few : length c.in_ok-slabs.slabs.items ≤ MAX_ORDERS =
     subst (λ (plan : List ℕ). length plan ≤ MAX_ORDERS) same c.requires.few in
-    let made = subst (λ (k : ℕ). AreMade c.in_ok-slabs.slabs.items k c.loop-order.chains.firsts.items c.loop-order.chains.nexts.items
+    let made = subst (λ (k : ℕ). AreMade c.in_ok-slabs.slabs.items k
+    c.loop-order.chains.firsts.items c.loop-order.chains.nexts.items
     c.loop-order.chains.previous.items) first c.loop-order.invariant in
-    let linked = made-linked c.in_ok-slabs.slabs.items c.loop-order.chains.firsts.items c.loop-order.chains.nexts.items
+    let linked = made-linked c.in_ok-slabs.slabs.items
+    c.loop-order.chains.firsts.items c.loop-order.chains.nexts.items
     c.loop-order.chains.previous.items few low made in
     ap plan_of (lists-are c.loop-order.chains.firsts.items c.loop-order.chains.nexts.items
     c.loop-order.chains.previous.items c.in_ok-slabs.slabs.items _ linked)
@@ -113,9 +127,11 @@ returns-clause-kept c =
     let first : c.loop-order.order ≡ 0 = omega arith in
     let few : length c.in_ok-slabs.slabs.items ≤ MAX_ORDERS =
     subst (λ (plan : List ℕ). length plan ≤ MAX_ORDERS) same c.requires.few in
-    let made = subst (λ (k : ℕ). AreMade c.in_ok-slabs.slabs.items k c.loop-order.chains.firsts.items c.loop-order.chains.nexts.items
+    let made = subst (λ (k : ℕ). AreMade c.in_ok-slabs.slabs.items k
+    c.loop-order.chains.firsts.items c.loop-order.chains.nexts.items
     c.loop-order.chains.previous.items) first c.loop-order.invariant in
-    let linked = made-linked c.in_ok-slabs.slabs.items c.loop-order.chains.firsts.items c.loop-order.chains.nexts.items
+    let linked = made-linked c.in_ok-slabs.slabs.items
+    c.loop-order.chains.firsts.items c.loop-order.chains.nexts.items
     c.loop-order.chains.previous.items few low made in
     subst (λ (lists : List (List ℕ)). AreSlabLists lists)
     (sym (lists-are c.loop-order.chains.firsts.items c.loop-order.chains.nexts.items

@@ -4,7 +4,7 @@
 -- tickets of all seats stay the numbers below it. Past the budget it takes one of the draws that a
 -- seat has left for that. As there were never more of these than shares, the word is at most the
 -- budget and the shares together.
-use Rattle.std.proofs.Common.{◌≡◌, ◌⊎◌, ℕ, ◌+◌, ◌%◌, ◌^◌, ◌<◌, ◌≤◌, ◌==◌, Bool, true, false, ◌||◌}
+use Rattle.std.proofs.Common.{◌≡◌, ◌⊎◌, ℕ, ◌+◌, ◌%◌, ◌^◌, ◌<◌, ◌≤◌, ◌==◌, true}
 use Rattle.std.proofs.Common.{cond, nat_eq, List, [], ◌∷◌, set, count_by, slice_index}
 use Rattle.std.proofs.Common.{slice_set, refl, sym, ap, ◌∙◌, subst, inl, inr, ⊎_elim, IsTrue}
 use Rattle.std.proofs.Common.{mod-eq_of_lt, arith}

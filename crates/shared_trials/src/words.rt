@@ -16,8 +16,11 @@ const ROUNDS: u64 = 100_000;
 
 const START: u64 = 9_000_000;
 
-// A worker's seats, and what it did: the least loss that it published, and the tickets that it
-// drew.
+// Five below the number of draws, so that at least one and at most five workers find it spent.
+const BUDGET: u64 = 799_995;
+
+// A worker's seats, and what it did: the least loss that it published, the tickets that it drew,
+// and the number past the budget, where it drew one.
 #[derive(Drop)]
 struct Worker {
     loss: BestSeat,
@@ -25,6 +28,15 @@ struct Worker {
     number: u64,
     least: u64,
     tickets: Vec<u64>,
+    past: Option<u64>,
+}
+
+// What all workers did.
+#[derive(Drop)]
+struct Joined {
+    least: u64,
+    tickets: Vec<u64>,
+    past: Vec<u64>,
 }
 
 // One publishing and one look. The answer is at most all that was published here.
@@ -37,6 +49,7 @@ fn publish(best: &Best, seat: &mut BestSeat, loss: u64) -> u64
     best.look(seat)
 }
 
+// Publishes and looks in each round, and draws until the budget is spent.
 fn work(best: &Best, meter: &Meter, worker: Worker) -> Worker
     requires seats { AreSeatsOf best.now meter.now worker.loss worker.ticket }
     requires spend { 1 ≤ worker.ticket.spends }
@@ -48,23 +61,26 @@ fn work(best: &Best, meter: &Meter, worker: Worker) -> Worker
         number,
         mut least,
         mut tickets,
+        mut past,
     } = worker;
+    let mut is_spent = false;
     for round in 0..ROUNDS {
         let mine = START.wrapping_sub(round.wrapping_mul(8).wrapping_add(number));
         least = least.min(mine);
         if publish(best, &mut loss, mine) > least {
             least = 0;
         }
-        if let Draw::Ticket(drawn) = meter.draw(&mut ticket) {
-            let _ = tickets.push(drawn);
-        } else {
-            return Worker {
-                loss,
-                ticket,
-                number,
-                least,
-                tickets,
-            };
+        if is_spent {
+            continue;
+        }
+        match meter.draw(&mut ticket) {
+            Draw::Ticket(drawn) => {
+                let _ = tickets.push(drawn);
+            }
+            Draw::Spent(drawn) => {
+                is_spent = true;
+                past = Some(drawn);
+            }
         }
     }
     Worker {
@@ -73,6 +89,7 @@ fn work(best: &Best, meter: &Meter, worker: Worker) -> Worker
         number,
         least,
         tickets,
+        past,
     }
 }
 
@@ -103,21 +120,21 @@ fn workers_of(
             number: u64::from(number),
             least: START,
             tickets,
+            past: None,
         })?;
     }
     Ok(workers)
 }
 
-// Joins what the workers know, and puts their tickets together. The answer is the least loss that
-// any of them published.
+// Joins what the workers know, and puts together what they did.
 fn join_all(
+    alloc: Global,
     best: &Best,
     meter: &Meter,
     loss: &mut BestSeat,
     ticket: &mut MeterSeat,
     mut workers: Vec<Worker>,
-    tickets: &mut Vec<u64>,
-) -> Result<u64, OutOfMemory>
+) -> Result<Joined, OutOfMemory>
     requires loss { IsLossSeatOf best.now loss.old }
     requires ticket { IsTicketSeatOf meter.now ticket.old }
     requires each { All (λ worker. AreSeatsOf best.now meter.now worker.loss worker.ticket)
@@ -128,6 +145,8 @@ fn join_all(
         × (ticket.new.shares ≡ ticket.old.shares + vec_len workers)) }
 {
     let mut least = START;
+    let mut tickets = Vec::new(alloc);
+    let mut past = Vec::new(alloc);
     while let Some(worker) = workers.pop() {
         let Worker {
             loss: other,
@@ -135,20 +154,26 @@ fn join_all(
             number: _,
             least: published,
             tickets: mut drawn,
+            past: last,
         } = worker;
         best.join(loss, other);
         meter.join(ticket, another);
         least = least.min(published);
         tickets.append(&mut drawn)?;
+        past.extend(last)?;
     }
-    Ok(least)
+    Ok(Joined {
+        least,
+        tickets,
+        past,
+    })
 }
 
 #[test]
 fn eight_threads_publish_look_and_draw(rt: HostRuntime) -> Result<(), Fail> {
     let alloc = rt.alloc();
     let (best, mut loss) = Best::new(alloc, START, WORKERS + 1)?;
-    let (meter, mut ticket) = Meter::new(alloc, 1_000_000, WORKERS + 1)?;
+    let (meter, mut ticket) = Meter::new(alloc, BUDGET, WORKERS + 1)?;
     let workers = workers_of(alloc, &best, &meter, &mut loss, &mut ticket)?;
     let (shared, counted) = (&best, &meter);
     let done = thread::map_vec(
@@ -160,13 +185,19 @@ fn eight_threads_publish_look_and_draw(rt: HostRuntime) -> Result<(), Fail> {
             ensures { AreSeatsOf shared.entry.now counted.entry.now result.loss result.ticket }
         { work(shared, counted, worker) },
     )?;
-    let mut tickets = Vec::new(alloc);
-    let least = join_all(&best, &meter, &mut loss, &mut ticket, done, &mut tickets)?;
+    let Joined {
+        least,
+        mut tickets,
+        mut past,
+    } = join_all(alloc, &best, &meter, &mut loss, &mut ticket, done)?;
     assert_eq!(rt; least, START - 799_999);
     assert_eq!(rt; best.close(loss), least);
     let drawn = meter.close(ticket);
+    assert!(rt; drawn > BUDGET);
+    assert_eq!(rt; tickets.len() as u64, BUDGET);
     tickets.sort_unstable();
-    assert_eq!(rt; drawn, 800_000);
+    past.sort_unstable();
+    tickets.append(&mut past)?;
     assert_eq!(rt; tickets.len() as u64, drawn);
     for (place, &number) in tickets.iter().enumerate() {
         assert_eq!(rt; number, place as u64);

@@ -23,13 +23,13 @@ use Rattle.shared_words.proofs.Views.{some_split, some_join, some_alone, stood_t
 use Rattle.shared_words.proofs.Views.{sum_set, sum_split, sum_join, two_of}
 
 -- a step on the word, by what it does to the word and to the seat's view
-on_the_word : (key : BestKey) (slots place : ℕ) (me : Me ℕ BestView) (f : ℕ → ℕ)
+on-the-word : (key : BestKey) (slots place : ℕ) (me : Me ℕ BestView) (f : ℕ → ℕ)
     (then : ℕ → Me ℕ BestView → Type 0) →
     ((word : ℕ) (views : List BestView) → LeastIs key word views →
     get_elem? views place ≡ some me.0 →
     (new : BestView) × LeastIs key (f word) (set views place new) × then word (new, me.1)) →
     Allows (Least key) slots place me 0 f then
-on_the_word key slots place me f then move s kept _ here _ =
+on-the-word key slots place me f then move s kept _ here _ =
     let found : slice_index s.words 0 ≡ kept.word = ap (λ words. slice_index words 0) kept.words in
     let words : slice_set s.words 0 (f (slice_index s.words 0)) ≡ f kept.word ∷ [] =
     subst (λ words. slice_set words 0 (f (slice_index words 0)) ≡ f kept.word ∷ [])
@@ -42,17 +42,13 @@ on_the_word key slots place me f then move s kept _ here _ =
       subst (λ word. then word (moved.0, me.1)) (sym found) moved.2,
     )
 
--- a seat with shares owes nothing of what is asked of one without
-has_some : {A : Type 0} (v : BestView) → 0 < v.shares → v.shares ≡ 0 → A
-has_some v some_shares empty = absurd (omega arith)
-
 told : (start word : ℕ) (v : BestView) → 0 < v.shares → Fits start word v → Told v word
 told start word v some_shares fit = ((fit.seen some_shares).0, fit.published)
 
 pub looks : (key : BestKey) (slots place : ℕ) (v : BestView) (held : List (ℕ × ℕ)) → 0 < v.shares →
     Allows (Least key) slots place (v, held) 0 (λ n. n) (Looked (step slots 0 0 0 none) (v, held))
 looks key slots place v held some_shares =
-    on_the_word key slots place (v, held) (λ n. n) (Looked (step slots 0 0 0 none) (v, held))
+    on-the-word key slots place (v, held) (λ n. n) (Looked (step slots 0 0 0 none) (v, held))
     (λ word views rule here.
     let fit = rule.each place v here in
     let new = view_after_look v word in
@@ -82,10 +78,10 @@ lower start word less v below fit = record {
 }
 
 -- the lesser of the word and of what is published stems from the seats
-stems_lower : (start word loss : ℕ) (views : List BestView) (place : ℕ) (v new : BestView) →
+stems-lower : (start word loss : ℕ) (views : List BestView) (place : ℕ) (v new : BestView) →
     get_elem? views place ≡ some v → new.mine ≡ v.mine ++ loss ∷ [] → Stems start word views →
     Stems start (min word loss) (set views place new)
-stems_lower start word loss views place v new here mine stems =
+stems-lower start word loss views place v new here mine stems =
     dite (dec_le word loss)
     (λ le. let same : min word loss ≡ word = omega arith in
     subst (λ n. Stems start n (set views place new)) (sym same)
@@ -104,7 +100,7 @@ pub publishes : (key : BestKey) (slots place loss : ℕ) (v : BestView) (held : 
     Allows (Least key) slots place (v, held) 0 (λ n. min n loss)
     (Published (step slots 0 loss 0 none) (v, held))
 publishes key slots place loss v held some_shares =
-    on_the_word key slots place (v, held) (λ n. min n loss)
+    on-the-word key slots place (v, held) (λ n. min n loss)
     (Published (step slots 0 loss 0 none) (v, held))
     (λ word views rule here.
     let fit = rule.each place v here in
@@ -115,7 +111,7 @@ publishes key slots place loss v held some_shares =
       published = All-push (λ x. min word loss ≤ x) v.mine loss
           (lower key.start word (min word loss) v below fit).published (omega arith);
       seen = λ _. (omega arith, omega arith);
-      spent = has_some v some_shares;
+      spent = λ empty. absurd (omega arith);
     } in (
       new,
       record {
@@ -123,7 +119,7 @@ publishes key slots place loss v held some_shares =
         each = each_set (λ _. Fits key.start (min word loss)) views place new
             (λ other u there. lower key.start word (min word loss) u below
             (rule.each other u there)) new_fits;
-        stems = stems_lower key.start word loss views place v new here refl rule.stems;
+        stems = stems-lower key.start word loss views place v new here refl rule.stems;
       },
       (told key.start word v some_shares fit, refl),
     ))

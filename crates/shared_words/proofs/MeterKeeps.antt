@@ -4,11 +4,12 @@
 -- tickets of all seats stay the numbers below it. Past the budget it takes one of the draws that a
 -- seat has left for that. As there were never more of these than shares, the word is at most the
 -- budget and the shares together.
-use Rattle.std.proofs.Common.{◌≡◌, ◌⊎◌, ℕ, ◌+◌, ◌%◌, ◌^◌, ◌<◌, ◌≤◌, ◌==◌, Bool, true, false, ◌||◌}
-use Rattle.std.proofs.Common.{true≢false, cond, nat_eq, List, [], ◌∷◌, set, count_by, slice_index}
+use Rattle.std.proofs.Common.{◌≡◌, ◌⊎◌, ℕ, ◌+◌, ◌%◌, ◌^◌, ◌<◌, ◌≤◌, ◌==◌, true}
+use Rattle.std.proofs.Common.{cond, nat_eq, List, [], ◌∷◌, set, count_by, slice_index}
 use Rattle.std.proofs.Common.{slice_set, refl, sym, ap, ◌∙◌, subst, inl, inr, ⊎_elim, IsTrue}
 use Rattle.std.proofs.Common.{mod-eq_of_lt, arith}
 use Rattle.std.proofs.lemmas.List.Sums.{sum_by_push, sum_by-append}
+use Rattle.std.proofs.lemmas.Bool.{false≢true, or_cases, or_left, or_right}
 use Rattle.std.proofs.lemmas.Bool.Decides.{nat_tests}
 use mathlib.Core.Option.{none, some, some-injective}
 use mathlib.Core.Logic.{dite}
@@ -27,47 +28,28 @@ use Rattle.shared_words.proofs.Views.{each_set, each_split, each_join, some_here
 use Rattle.shared_words.proofs.Views.{some_split, some_join, some_alone, stood_there}
 use Rattle.shared_words.proofs.Views.{sum_set, sum_split, sum_join, sum_alone, two_of}
 
-off : {A : Type 0} → false ≡ true → A
-off e = absurd (true≢false (sym e))
+is-one : (n : ℕ) → (n == 1) ≡ true → n ≡ 1
+is-one n e = grind (arith, nat_tests)
 
-or_cases : (a b : Bool) → (a || b) ≡ true → (a ≡ true) ⊎ (b ≡ true)
-or_cases true b e = inl refl
-or_cases false b e = inr e
-
-or_left : (a b : Bool) → a ≡ true → (a || b) ≡ true
-or_left true b e = refl
-or_left false b e = off e
-
-or_right : (a b : Bool) → b ≡ true → (a || b) ≡ true
-or_right true b e = refl
-or_right false b e = e
-
-is_one : (n : ℕ) → (n == 1) ≡ true → n ≡ 1
-is_one n e = grind (arith, nat_tests)
-
-spend_cases : (nodes number : ℕ) →
+spend-cases : (nodes number : ℕ) →
     ((number < nodes) × (spend_at nodes number ≡ 0))
     ⊎ ((nodes ≤ number) × (spend_at nodes number ≡ 1))
-spend_cases nodes number = dite (dec_le nodes number)
+spend-cases nodes number = dite (dec_le nodes number)
     (λ past. inr (past, grind (arith, nat_tests)))
     (λ within. inl (omega arith, grind (arith, nat_tests)))
 
-once_more : (x t : ℕ) → once_below x (t + 1) ≡ once_below x t + cond (nat_eq x t) 1 0
-once_more x t = grind (arith, nat_tests)
-
--- a seat with shares owes nothing of what is asked of one without
-has_some : {A : Type 0} (v : MeterView) → 0 < v.shares → v.shares ≡ 0 → A
-has_some v some_shares empty = absurd (omega arith)
+once-more : (x t : ℕ) → once_below x (t + 1) ≡ once_below x t + cond (nat_eq x t) 1 0
+once-more x t = grind (arith, nat_tests)
 
 -- a step on the ticket word, by what it does to the word and to the seat's view
-on_tickets : (key : MeterKey) (slots place : ℕ) (me : Me ℕ MeterView) (f : ℕ → ℕ)
+on-tickets : (key : MeterKey) (slots place : ℕ) (me : Me ℕ MeterView) (f : ℕ → ℕ)
     (then : ℕ → Me ℕ MeterView → Type 0) →
     ((ticket halt : ℕ) (views : List MeterView) → CountedAt key ticket halt views →
     get_elem? views place ≡ some me.0 →
     (new : MeterView) × CountedAt key (f ticket) halt (set views place new)
     × then ticket (new, me.1)) →
     Allows (Counted key) slots place me 0 f then
-on_tickets key slots place me f then move s kept _ here _ =
+on-tickets key slots place me f then move s kept _ here _ =
     let found : slice_index s.words 0 ≡ kept.ticket =
     ap (λ words. slice_index words 0) kept.words in
     let words : slice_set s.words 0 (f (slice_index s.words 0)) ≡ f kept.ticket ∷ kept.halt ∷ [] =
@@ -82,14 +64,14 @@ on_tickets key slots place me f then move s kept _ here _ =
     )
 
 -- the same on the halt word
-on_halt : (key : MeterKey) (slots place : ℕ) (me : Me ℕ MeterView) (f : ℕ → ℕ)
+on-halt : (key : MeterKey) (slots place : ℕ) (me : Me ℕ MeterView) (f : ℕ → ℕ)
     (then : ℕ → Me ℕ MeterView → Type 0) →
     ((ticket halt : ℕ) (views : List MeterView) → CountedAt key ticket halt views →
     get_elem? views place ≡ some me.0 →
     (new : MeterView) × CountedAt key ticket (f halt) (set views place new)
     × then halt (new, me.1)) →
     Allows (Counted key) slots place me 1 f then
-on_halt key slots place me f then move s kept _ here _ =
+on-halt key slots place me f then move s kept _ here _ =
     let found : slice_index s.words 1 ≡ kept.halt = ap (λ words. slice_index words 1) kept.words in
     let words : slice_set s.words 1 (f (slice_index s.words 1)) ≡ kept.ticket ∷ f kept.halt ∷ [] =
     subst (λ l. slice_set l 1 (f (slice_index l 1)) ≡ kept.ticket ∷ f kept.halt ∷ [])
@@ -107,7 +89,7 @@ pub draws : (key : MeterKey) (slots place : ℕ) (v : MeterView) (held : List (�
     Allows (Counted key) slots place (v, held) 0 (λ n. (n + 1) % 2 ^ 64)
     (Drew (step slots 0 1 0 none) (v, held))
 draws key slots place v held some_shares some_spends =
-    on_tickets key slots place (v, held) (λ n. (n + 1) % 2 ^ 64)
+    on-tickets key slots place (v, held) (λ n. (n + 1) % 2 ^ 64)
     (Drew (step slots 0 1 0 none) (v, held))
     (λ ticket halt views rule here.
     let fit = rule.each place v here in
@@ -120,7 +102,7 @@ draws key slots place v held some_shares some_spends =
       budget = fit.budget;
       halted = fit.halted;
       heard = fit.heard;
-      spent = has_some v some_shares;
+      spent = λ empty. absurd (omega arith);
     } in (
       new,
       subst (λ word. CountedAt key word halt (set views place new)) (sym next) record {
@@ -129,11 +111,11 @@ draws key slots place v held some_shares some_spends =
         spends = ⊎_elim
             (λ within. omega (arith, rule.spends, changed, within.0, within.1, budget))
             (λ past. omega (arith, rule.spends, changed, past.0, past.1, budget))
-            (spend_cases v.nodes ticket);
+            (spend-cases v.nodes ticket);
         tickets = λ x. omega (
           arith,
           rule.tickets x,
-          once_more x ticket,
+          once-more x ticket,
           sum_set (times_of x) views place v new here,
           sum_by_push (λ y. cond (nat_eq x y) 1 0) v.tickets ticket,
         );
@@ -149,7 +131,7 @@ pub halts : (key : MeterKey) (slots place : ℕ) (v : MeterView) (held : List (�
     Allows (Counted key) slots place (v, held) 1 (λ _. 1)
     (λ _. Halted (step slots 1 1 0 none) (v, held) 1)
 halts key slots place v held some_shares =
-    on_halt key slots place (v, held) (λ _. 1) (λ _. Halted (step slots 1 1 0 none) (v, held) 1)
+    on-halt key slots place (v, held) (λ _. 1) (λ _. Halted (step slots 1 1 0 none) (v, held) 1)
     (λ ticket halt views rule here.
     let new = view_after_halt v in
     let fit = rule.each place v here in
@@ -164,7 +146,7 @@ halts key slots place v held some_shares =
       budget = fit.budget;
       halted = λ _. refl;
       heard = λ _. refl;
-      spent = has_some v some_shares;
+      spent = λ empty. absurd (omega arith);
     } in (
       new,
       record {
@@ -187,15 +169,15 @@ pub hears : (key : MeterKey) (slots place : ℕ) (v : MeterView) (held : List (�
     0 < v.shares →
     Allows (Counted key) slots place (v, held) 1 (λ n. n) (Heard (step slots 1 0 0 none) (v, held))
 hears key slots place v held some_shares =
-    on_halt key slots place (v, held) (λ n. n) (Heard (step slots 1 0 0 none) (v, held))
+    on-halt key slots place (v, held) (λ n. n) (Heard (step slots 1 0 0 none) (v, held))
     (λ ticket halt views rule here.
     let new = view_after_hearing v halt in
     let fit = rule.each place v here in
     let new_fits : Fits key.nodes halt new = record {
       budget = fit.budget;
       halted = fit.halted;
-      heard = λ heard. ⊎_elim fit.heard (is_one halt) (or_cases v.heard (halt == 1) heard);
-      spent = has_some v some_shares;
+      heard = λ heard. ⊎_elim fit.heard (is-one halt) (or_cases v.heard (halt == 1) heard);
+      spent = λ empty. absurd (omega arith);
     } in (
       new,
       record {
@@ -229,8 +211,8 @@ splits key place v two one s kept here =
     } in
     let right : Fits key.nodes kept.halt (given_view v) = record {
       budget = λ _. budget;
-      halted = λ e. off e;
-      heard = λ e. off e;
+      halted = λ e. absurd (false≢true e);
+      heard = λ e. absurd (false≢true e);
       spent = λ empty. absurd (omega arith);
     } in
     record {
@@ -278,8 +260,8 @@ joins key place v other w some_shares s kept here apart there =
     } in
     let spent_fits : Fits key.nodes kept.halt spent_view = record {
       budget = λ some. absurd (omega arith);
-      halted = λ e. off e;
-      heard = λ e. off e;
+      halted = λ e. absurd (false≢true e);
+      heard = λ e. absurd (false≢true e);
       spent = λ _. record { spends = refl; tickets = refl; mark = refl; heard = refl };
     } in
     record {
@@ -327,7 +309,8 @@ closes key place v words slots word final read all = record {
       ap (count_by (nat_eq x)) (IsSpent.tickets (spent other u there apart))))
       ∙ rule.tickets x ∙ ap (once_below x) is;
   halted = λ heard. some_alone HasHalted views place v here
-      (λ other u there apart mark. off (sym (IsSpent.mark (spent other u there apart)) ∙ mark))
+      (λ other u there apart mark.
+      absurd (false≢true (sym (IsSpent.mark (spent other u there apart)) ∙ mark)))
       (rule.halted ((rule.each place v here).heard heard));
 }
   where

@@ -22,11 +22,11 @@ module _ {V : Type 0} where
   in_range (x ∷ views) (suc place) v here =
       let rest = in_range views place v here in omega arith
 
-  read_here : (views : List V) (place : ℕ) (v d : V) → get_elem? views place ≡ some v →
+  read-here : (views : List V) (place : ℕ) (v d : V) → get_elem? views place ≡ some v →
       get_or views place d ≡ v
-  read_here [] place v d here = absurd (some-ne-none v (sym here))
-  read_here (x ∷ views) zero v d here = some-injective x v here
-  read_here (x ∷ views) (suc place) v d here = read_here views place v d here
+  read-here [] place v d here = absurd (some-ne-none v (sym here))
+  read-here (x ∷ views) zero v d here = some-injective x v here
+  read-here (x ∷ views) (suc place) v d here = read-here views place v d here
 
   -- one place has one view
   pub one_view : (views : List V) (place other : ℕ) (v w : V) → get_elem? views place ≡ some v →
@@ -129,7 +129,7 @@ module _ {V : Type 0} (f : V → ℕ) where
   pub sum_set : (views : List V) (place : ℕ) (v new : V) → get_elem? views place ≡ some v →
       sum_by f (set views place new) + f v ≡ sum_by f views + f new
   sum_set views place v new here =
-      let read : f (get_or views place v) ≡ f v = ap f (read_here views place v v here) in
+      let read : f (get_or views place v) ≡ f v = ap f (read-here views place v v here) in
       omega (arith, sum_by-set f views place new v (in_range views place v here))
 
   pub sum_split : (views : List V) (place : ℕ) (v left right : V) →
@@ -149,10 +149,10 @@ module _ {V : Type 0} (f : V → ℕ) where
         sum_set (set views place both) other w spent there,
       )
 
-  one_of : (views : List V) (place : ℕ) (v : V) → get_elem? views place ≡ some v →
+  one-of : (views : List V) (place : ℕ) (v : V) → get_elem? views place ≡ some v →
       f v ≤ sum_by f views
-  one_of views place v here =
-      let read : f (get_or views place v) ≡ f v = ap f (read_here views place v v here) in
+  one-of views place v here =
+      let read : f (get_or views place v) ≡ f v = ap f (read-here views place v v here) in
       omega (arith, get_or-le-sum_by f views place v (in_range views place v here))
 
   -- two views have no more than all
@@ -162,10 +162,10 @@ module _ {V : Type 0} (f : V → ℕ) where
   two_of (x ∷ views) zero zero v u here there apart = absurd (apart refl)
   two_of (x ∷ views) zero (suc other) v u here there apart =
       let first : f x ≡ f v = ap f (some-injective x v here) in
-      omega (arith, one_of views other u there, sum_by-cons f x views)
+      omega (arith, one-of views other u there, sum_by-cons f x views)
   two_of (x ∷ views) (suc place) zero v u here there apart =
       let first : f x ≡ f u = ap f (some-injective x u there) in
-      omega (arith, one_of views place v here, sum_by-cons f x views)
+      omega (arith, one-of views place v here, sum_by-cons f x views)
   two_of (x ∷ views) (suc place) (suc other) v u here there apart =
       omega (
         arith,
@@ -173,14 +173,14 @@ module _ {V : Type 0} (f : V → ℕ) where
         sum_by-cons f x views,
       )
 
-  sum_none : (views : List V) → EachView (λ _ u. f u ≡ 0) views → sum_by f views ≡ 0
-  sum_none [] none = refl
-  sum_none (x ∷ views) none =
+  sum-none : (views : List V) → EachView (λ _ u. f u ≡ 0) views → sum_by f views ≡ 0
+  sum-none [] none = refl
+  sum-none (x ∷ views) none =
       omega (
         arith,
         sum_by-cons f x views,
         none 0 x refl,
-        sum_none views (λ place u here. none (suc place) u here),
+        sum-none views (λ place u here. none (suc place) u here),
       )
 
   -- where no other view has any, one has all
@@ -192,7 +192,7 @@ module _ {V : Type 0} (f : V → ℕ) where
       omega (
         arith,
         sum_by-cons f x views,
-        sum_none views (λ other u there. others (suc other) u there (λ e. omega arith)),
+        sum-none views (λ other u there. others (suc other) u there (λ e. omega arith)),
       )
   sum_alone (x ∷ views) (suc place) v here others =
       omega (

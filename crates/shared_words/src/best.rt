@@ -81,7 +81,8 @@ impl Best {
             .join_seat::<OneShare>(&mut seat.seat, other.seat);
     }
 
-    /// The least loss that was published by now, or the start.
+    /// A loss that is at most the start and all that this seat saw or published. What other seats
+    /// published may have lowered it further.
     pub fn look(&self, seat: &mut BestSeat) -> u64
         requires own { IsLossSeatOf self.now seat.old }
         ensures start { result ≤ self.now.start }

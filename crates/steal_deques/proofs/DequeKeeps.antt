@@ -4,8 +4,9 @@
 -- to what some thief stole what it takes from the paths. A share that is lent or taken back changes
 -- two views and no path.
 use Rattle.std.proofs.Common.{◌≡◌, ◌≢◌, ℕ, zero, suc, ◌<◌, ◌≤◌, Bool, true, false}
-use Rattle.std.proofs.Common.{true≢false, List, [], ◌∷◌, ◌++◌, length, set, All, sum_by, refl, sym}
+use Rattle.std.proofs.Common.{List, [], ◌∷◌, ◌++◌, length, set, All, sum_by, refl, sym}
 use Rattle.std.proofs.Common.{ap, ◌∙◌, subst, inr, ⊎_elim, length-append, arith}
+use Rattle.std.proofs.lemmas.Bool.{false≢true}
 use Rattle.std.proofs.lemmas.List.Elements.{All-nil, All-cons, All-push, All-head, All-tail}
 use Rattle.std.proofs.lemmas.List.Sums.{sum_by-append, sum_by-cons}
 use mathlib.Core.Option.{some, some-injective, some-ne-none}
@@ -24,23 +25,20 @@ use Rattle.steal_deques.specs.Views.{lender_view, lent_view, both_views}
 use Rattle.steal_deques.specs.Rule.{IsInTree, shares_of, stolen_by, Fits, OpenedBy, Opened, Kept}
 use Rattle.steal_deques.specs.Rule.{ViewWasEmpty, ViewHadFew}
 
-off : {A : Type 0} → false ≡ true → A
-off e = absurd (true≢false (sym e))
-
 -- the owner's own facts, at its place
-owner_fits : (place : ℕ) (v : DequeView) → v.opened ≡ true → v.owns ≡ true →
+owner-fits : (place : ℕ) (v : DequeView) → v.opened ≡ true → v.owns ≡ true →
     Fits place v.ranked place v
-owner_fits place v opened owns = record {
+owner-fits place v opened owns = record {
   opened = opened;
   owner = λ _. refl;
-  ranked = λ no_owner. off (sym no_owner ∙ owns);
-  spent = λ no_owner. off (sym no_owner ∙ owns);
+  ranked = λ no_owner. absurd (false≢true (sym no_owner ∙ owns));
+  spent = λ no_owner. absurd (false≢true (sym no_owner ∙ owns));
 }
 
 -- an end that is opened is one of an opened deque
-is_opened : (paths : List (List ℕ)) (views : List DequeView) (place : ℕ) (v : DequeView) →
+is-opened : (paths : List (List ℕ)) (views : List DequeView) (place : ℕ) (v : DequeView) →
     v.opened ≡ true → Kept paths views → get_elem? views place ≡ some v → Opened paths views
-is_opened paths views place v opened kept here =
+is-opened paths views place v opened kept here =
     ⊎_elim
     (λ (new : (views ≡ unopened_view ∷ []) × (paths ≡ [])).
     unopened place (subst (λ l. get_elem? l place ≡ some v) new.0 here))
@@ -49,34 +47,35 @@ is_opened paths views place v opened kept here =
   where
     unopened : (place : ℕ) → get_elem? (unopened_view ∷ []) place ≡ some v → Opened paths views
     unopened zero e =
-        off (ap (λ (u : DequeView). u.opened) (some-injective unopened_view v e) ∙ opened)
+        absurd (false≢true (ap (λ (u : DequeView). u.opened) (some-injective unopened_view v e)
+        ∙ opened))
     unopened (suc rest) e = absurd (some-ne-none v (sym e))
 
 -- the owner's view is the one that the rule speaks of
-by_owner : (paths : List (List ℕ)) (views : List DequeView) (place : ℕ) (v : DequeView) →
+by-owner : (paths : List (List ℕ)) (views : List DequeView) (place : ℕ) (v : DequeView) →
     v.opened ≡ true → v.owns ≡ true → Kept paths views → get_elem? views place ≡ some v →
     OpenedBy place v paths views
-by_owner paths views place v opened owns kept here =
-    let old = is_opened paths views place v opened kept here in
+by-owner paths views place v opened owns kept here =
+    let old = is-opened paths views place v opened kept here in
     let same = (old.2.each place v here).owner owns in
     let is = one_view views old.0 place old.1 v old.2.here here same in
     subst (λ (x : ℕ × DequeView). OpenedBy x.0 x.1 paths views)
     (λ i. (sym same i, sym is i)) old.2
 
-all_front : (P : List ℕ → Type 0) (xs ys : List (List ℕ)) → All P (xs ++ ys) → All P xs
-all_front P [] ys all = All-nil P
-all_front P (x ∷ xs) ys all =
-    All-cons P x xs (All-head P x (xs ++ ys) all) (all_front P xs ys (All-tail P x (xs ++ ys) all))
+all-front : (P : List ℕ → Type 0) (xs ys : List (List ℕ)) → All P (xs ++ ys) → All P xs
+all-front P [] ys all = All-nil P
+all-front P (x ∷ xs) ys all =
+    All-cons P x xs (All-head P x (xs ++ ys) all) (all-front P xs ys (All-tail P x (xs ++ ys) all))
 
-all_back : (P : List ℕ → Type 0) (xs ys : List (List ℕ)) → All P (xs ++ ys) → All P ys
-all_back P [] ys all = all
-all_back P (x ∷ xs) ys all = all_back P xs ys (All-tail P x (xs ++ ys) all)
+all-back : (P : List ℕ → Type 0) (xs ys : List (List ℕ)) → All P (xs ++ ys) → All P ys
+all-back P [] ys all = all
+all-back P (x ∷ xs) ys all = all-back P xs ys (All-tail P x (xs ++ ys) all)
 
 pub pushes : (place : ℕ) (v : DequeView) (path : List ℕ) → v.opened ≡ true → v.owns ≡ true →
     IsInTree v.ranked path →
     Pushes Kept place v (path ∷ []) (λ new. new ≡ view_after_push v (path ∷ []))
 pushes place v path opened owns inside paths views kept here =
-    let rule = by_owner paths views place v opened owns kept here in
+    let rule = by-owner paths views place v opened owns kept here in
     let new = view_after_push v (path ∷ []) in (
       new,
       inr (
@@ -87,7 +86,7 @@ pushes place v path opened owns inside paths views kept here =
           owns = owns;
           shares = omega (arith, rule.shares, sum_set shares_of views place v new here);
           each = each_set (Fits place v.ranked) views place new rule.each
-              (owner_fits place new opened owns);
+              (owner-fits place new opened owns);
           balance = λ h. omega (
             arith,
             rule.balance h,
@@ -101,16 +100,16 @@ pushes place v path opened owns inside paths views kept here =
       refl,
     )
 
-count_of : (paths : List (List ℕ)) → sum_by (λ _. 1) paths ≡ length paths
-count_of [] = refl
-count_of (x ∷ paths) = omega (arith, sum_by-cons (λ _. 1) x paths, count_of paths)
+count-of : (paths : List (List ℕ)) → sum_by (λ _. 1) paths ≡ length paths
+count-of [] = refl
+count-of (x ∷ paths) = omega (arith, sum_by-cons (λ _. 1) x paths, count-of paths)
 
 pub pops : (place : ℕ) (v : DequeView) → v.opened ≡ true → v.owns ≡ true →
     Pops Kept place v (λ taken new. (new ≡ view_after_pop v taken)
     × All (IsInTree v.ranked) taken × (length new.popped ≤ length new.pushed))
 pops place v opened owns path paths views kept here =
     let taken = path ∷ [] in
-    let rule = by_owner (paths ++ taken) views place v opened owns kept here in
+    let rule = by-owner (paths ++ taken) views place v opened owns kept here in
     let new = view_after_pop v taken in (
       new,
       inr (
@@ -121,7 +120,7 @@ pops place v opened owns path paths views kept here =
           owns = owns;
           shares = omega (arith, rule.shares, sum_set shares_of views place v new here);
           each = each_set (Fits place v.ranked) views place new rule.each
-              (owner_fits place new opened owns);
+              (owner-fits place new opened owns);
           balance = λ h. omega (
             arith,
             rule.balance h,
@@ -129,18 +128,18 @@ pops place v opened owns path paths views kept here =
             sum_by-append h v.popped taken,
             sum_by-append h paths taken,
           );
-          tree = all_front (IsInTree v.ranked) paths taken rule.tree;
+          tree = all-front (IsInTree v.ranked) paths taken rule.tree;
         },
       ),
       (
         refl,
-        all_back (IsInTree v.ranked) paths taken rule.tree,
+        all-back (IsInTree v.ranked) paths taken rule.tree,
         omega (
           arith,
           rule.balance (λ _. 1),
-          count_of v.pushed,
-          count_of v.popped,
-          count_of (paths ++ taken),
+          count-of v.pushed,
+          count-of v.popped,
+          count-of (paths ++ taken),
           length-append paths taken,
           length-append v.popped taken,
         ),
@@ -152,7 +151,7 @@ finds place v opened views kept here = record {
   views = views;
   place = place;
   here = here;
-  rule = is_opened [] views place v opened kept here;
+  rule = is-opened [] views place v opened kept here;
 }
 
 pub finds_few : (place : ℕ) (v : DequeView) → v.opened ≡ true →
@@ -164,7 +163,7 @@ finds_few place v opened paths views few kept here = (
     views = views;
     place = place;
     here = here;
-    rule = is_opened paths views place v opened kept here;
+    rule = is-opened paths views place v opened kept here;
   },
 )
 
@@ -173,19 +172,19 @@ pub steals : (place : ℕ) (v : DequeView) → v.opened ≡ true → v.owns ≡ 
     Takes Kept place v 1 (λ taken new. (new ≡ view_after_steal v taken)
     × All (IsInTree v.ranked) taken)
 steals place v opened no_owner has taken paths views _ _ kept here =
-    let old = is_opened (taken ++ paths) views place v opened kept here in
+    let old = is-opened (taken ++ paths) views place v opened kept here in
     let home = old.0 in
     let own = old.1 in
     let rule = old.2 in
     let fit = rule.each place v here in
     let orders : v.ranked ≡ own.ranked = fit.ranked no_owner has in
     let apart : home ≢ place = λ same.
-    off (sym no_owner ∙ ap (λ (u : DequeView). u.owns)
-    (sym (one_view views place home v own here rule.here same)) ∙ rule.owns) in
+    absurd (false≢true (sym no_owner ∙ ap (λ (u : DequeView). u.owns)
+    (sym (one_view views place home v own here rule.here same)) ∙ rule.owns)) in
     let new = view_after_steal v taken in
     let new_fits : Fits home own.ranked place new = record {
       opened = opened;
-      owner = λ owns. off (sym no_owner ∙ owns);
+      owner = λ owns. absurd (false≢true (sym no_owner ∙ owns));
       ranked = fit.ranked;
       spent = λ _ empty. absurd (omega arith);
     } in (
@@ -205,13 +204,13 @@ steals place v opened no_owner has taken paths views _ _ kept here =
             sum_by-append h v.stolen taken,
             sum_by-append h taken paths,
           );
-          tree = all_back (IsInTree own.ranked) taken paths rule.tree;
+          tree = all-back (IsInTree own.ranked) taken paths rule.tree;
         },
       ),
       (
         refl,
         subst (λ ranked. All (IsInTree ranked) taken) (sym orders)
-            (all_front (IsInTree own.ranked) taken paths rule.tree),
+            (all-front (IsInTree own.ranked) taken paths rule.tree),
       ),
     )
 
@@ -224,17 +223,18 @@ opens place v ranked all unopened paths views kept here =
     inr (subst (λ l. Opened l (set views place own ++ spent_view ∷ [])) (sym new.1)
     (subst (λ l. Opened [] (set l place own ++ spent_view ∷ [])) (sym new.0)
     (alone place (subst (λ l. get_elem? l place ≡ some v) new.0 here)))))
-    (λ (old : Opened paths views). off (sym unopened ∙ (old.2.each place v here).opened))
+    (λ (old : Opened paths views).
+    absurd (false≢true (sym unopened ∙ (old.2.each place v here).opened)))
     kept
   where
     own : DequeView
     own = owner_view ranked all all [] [] []
 
     fits : EachView (Fits 0 ranked) (own ∷ spent_view ∷ [])
-    fits zero u e = subst (Fits 0 ranked 0) (some-injective own u e) (owner_fits 0 own refl refl)
+    fits zero u e = subst (Fits 0 ranked 0) (some-injective own u e) (owner-fits 0 own refl refl)
     fits (suc zero) u e = subst (Fits 0 ranked 1) (some-injective spent_view u e) record {
       opened = refl;
-      owner = λ owns. off owns;
+      owner = λ owns. absurd (false≢true owns);
       ranked = λ _ has. absurd (omega arith);
       spent = λ _ _. refl;
     }
@@ -263,12 +263,12 @@ opens place v ranked all unopened paths views kept here =
 pub lends : (place : ℕ) (v : DequeView) → v.opened ≡ true → v.owns ≡ true → 1 ≤ v.shares →
     Forks Kept place v (lender_view v) (lent_view v)
 lends place v opened owns has paths views kept here =
-    let rule = by_owner paths views place v opened owns kept here in
+    let rule = by-owner paths views place v opened owns kept here in
     let own = lender_view v in
     let thief = lent_view v in
     let thief_fits : (last : ℕ) → Fits place v.ranked last thief = λ last. record {
       opened = refl;
-      owner = λ e. off e;
+      owner = λ e. absurd (false≢true e);
       ranked = λ _ _. refl;
       spent = λ _ _. refl;
     } in
@@ -281,7 +281,7 @@ lends place v opened owns has paths views kept here =
         owns = owns;
         shares = omega (arith, rule.shares, sum_split shares_of views place v own thief here);
         each = each_split (Fits place v.ranked) views place own thief rule.each
-            (owner_fits place own opened owns) thief_fits;
+            (owner-fits place own opened owns) thief_fits;
         balance = λ h. omega (
           arith,
           rule.balance h,
@@ -295,11 +295,11 @@ lends place v opened owns has paths views kept here =
 pub takes_back : (place : ℕ) (v : DequeView) (other : ℕ) (w : DequeView) → v.opened ≡ true →
     v.owns ≡ true → Merges Kept place v other w (both_views v w) spent_view
 takes_back place v other w opened owns paths views kept here apart there =
-    let rule = by_owner paths views place v opened owns kept here in
+    let rule = by-owner paths views place v opened owns kept here in
     let own = both_views v w in
     let spent_fits : Fits place v.ranked other spent_view = record {
       opened = refl;
-      owner = λ e. off e;
+      owner = λ e. absurd (false≢true e);
       ranked = λ _ has. absurd (omega arith);
       spent = λ _ _. refl;
     } in
@@ -316,7 +316,7 @@ takes_back place v other w opened owns paths views kept here apart there =
           sum_join shares_of views place other v w own spent_view here there,
         );
         each = each_join (Fits place v.ranked) views place other own spent_view rule.each
-            (owner_fits place own opened owns) spent_fits;
+            (owner-fits place own opened owns) spent_fits;
         balance = λ h. omega (
           arith,
           rule.balance h,
@@ -341,7 +341,7 @@ settles owner whole empty h =
     own = owner_view owner.ranked owner.all owner.shares owner.pushed owner.popped owner.stolen
 
     rule : OpenedBy empty.place own [] empty.views
-    rule = by_owner [] empty.views empty.place own refl refl (inr empty.rule) empty.here
+    rule = by-owner [] empty.views empty.place own refl refl (inr empty.rule) empty.here
 
     not_owner : (b : Bool) → b ≢ true → b ≡ false
     not_owner true isnt = absurd (isnt refl)

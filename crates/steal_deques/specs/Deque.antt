@@ -17,7 +17,7 @@ pub record DequeOwner : Type 0 where
   pub popped : List (List ℕ)
   pub stolen : List (List ℕ)
 
--- a thief, which has one share: what it stole, and how many of its tries it lost
+-- a thief, which has one share: what it stole, and a number that never falls
 pub record DequeThief : Type 0 where
   pub deque : RowsId × Global
   pub ranked : RankedOrders

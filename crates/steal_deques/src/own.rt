@@ -103,7 +103,8 @@ impl Own {
     /// Lends one share to a thief, which has stolen nothing.
     pub fn lend(&mut self) -> Result<Thief, OutOfMemory>
         requires { 1 ≤ self.old.shares }
-        ensures thief { IfOk result (λ thief. IsThiefOf self.old thief × (thief.stolen ≡ [])) }
+        ensures thief { IfOk result (λ thief. IsThiefOf self.old thief × (thief.stolen ≡ [])
+            × (thief.passed ≡ 0)) }
         ensures lent { OnOk result (self.new
             ≡ record self.old { shares = self.old.shares - 1 }) }
         ensures refused { OnErr result (self.new ≡ self.old) }

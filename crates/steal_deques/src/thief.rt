@@ -1,6 +1,6 @@
-ghost use Rattle.std.specs.Prelude.{◌≡◌, ◌≤◌, ◌⊎◌, [], ◌∷◌, ◌++◌, true, IfSome, IfNone};
+ghost use Rattle.std.specs.Prelude.{◌≡◌, ◌⊎◌, [], ◌∷◌, ◌++◌, true, IfSome, IfNone};
 ghost use Rattle.mill_model.specs.Tree.{in_tree};
-ghost use Rattle.mill_io.specs.Causes.{Rose};
+ghost use Rattle.mill_io.specs.Causes.{one_more};
 ghost use Rattle.order_symmetry.specs.Ranked.{orders_of};
 ghost use Rattle.steal_deques.specs.Deque.{HadFew};
 
@@ -40,15 +40,15 @@ impl Model for Thief {
 
 impl Thief {
     /// Tries once to take the first path of the deque. It takes none only where the deque had one
-    /// path at most, or where it lost the try to another taker, which `passed` counts.
+    /// path at most, or where it lost the try to another taker, which `passed` counts up to the
+    /// greatest u64.
     pub fn steal(&mut self) -> Option<Path>
         ensures stolen { IfSome result (λ path. self.new
             ≡ record self.old { stolen = self.old.stolen ++ path ∷ [] }) }
         ensures inside { IfSome result (λ path. in_tree self.old.ranked.mill
             (orders_of self.old.ranked) path ≡ true) }
-        ensures nothing { IfNone result (self.new ≡ record self.old { passed = self.new.passed }) }
-        ensures cause { IfNone result (HadFew self.old ⊎ Rose self.old.passed self.new.passed) }
-        ensures passed { self.old.passed ≤ self.new.passed }
+        ensures nothing { IfNone result ((HadFew self.old × (self.new ≡ self.old))
+            ⊎ (self.new ≡ record self.old { passed = one_more self.old.passed })) }
     {
         match self.stealer.steal_as::<Steals>(&mut self.pass) {
             Steal::Success(path) => Some(path),

@@ -1,5 +1,5 @@
-ghost use Rattle.std.specs.Prelude.{◌≡◌, ◌≤◌, ◌*◌, ℕ, IfOk, All, length};
-ghost use Rattle.list_laws.specs.Sets.{holds};
+ghost use Rattle.std.specs.Prelude.{◌≡◌, ◌≤◌, ◌*◌, ℕ, IfOk, All, length, map};
+ghost use Rattle.list_laws.specs.Sets.{holds, different};
 ghost use Rattle.mill_model.specs.Slab.{load};
 ghost use Rattle.mill_model.specs.Instance.{IsOrder};
 ghost use Rattle.least_slacks.specs.Items.{AreItems};
@@ -48,6 +48,19 @@ pub(crate) fn by_colour(alloc: Global, rest: &[Order]) -> Result<Vec<Item>, OutO
     }
     items.sort_unstable_by_key(|item| item.colour);
     Ok(items)
+}
+
+/// How many runs of one colour items have: as many as colours, where they stand colour by colour.
+pub(crate) fn run_count(items: &[Item]) -> usize
+    ensures { different (map (λ item. item.colour) items.now) ≤ result }
+{
+    let mut count = 0;
+    for t in 0..items.len() {
+        if t == 0 || items[t].colour != items[t - 1].colour {
+            count += 1;
+        }
+    }
+    count
 }
 
 /// What some orders weigh together.

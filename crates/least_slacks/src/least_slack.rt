@@ -19,7 +19,7 @@ ghost use Rattle.least_slacks.specs.Keys.{AreLeast, HasColours, HasRoom, IsMade}
 use crate::best_prices::{NOTHING, add_left_out, best_of};
 use crate::colour_layers::{add_colours, copy_layer, spread_layer};
 use crate::key::{Key, NO_COLOUR};
-use crate::later_orders::{LaterOrders, by_colour, weight_of};
+use crate::later_orders::{LaterOrders, by_colour, run_count, weight_of};
 use crate::limits::SlabLimits;
 use mill_model::{Order, OutOfMemory};
 use std::alloc::Global;
@@ -533,7 +533,7 @@ pub fn least_slacks(
         prices,
         items: &items,
         weight: weight_of(rest),
-        kinds: rest.len(),
+        kinds: run_count(&items),
     };
     let layers = &mut tables.layers;
     let one = &mut tables.one;

@@ -3,6 +3,7 @@ ghost use Rattle.list_laws.specs.Sets.{holds, different};
 ghost use Rattle.mill_model.specs.Slab.{load};
 ghost use Rattle.mill_model.specs.Instance.{IsOrder};
 ghost use Rattle.least_slacks.specs.Items.{AreItems};
+ghost use Rattle.mill_model.specs.declared.order.TheConstants.{MAX_ORDERS};
 
 use mill_model::{Order, OutOfMemory};
 use std::alloc::Global;
@@ -25,8 +26,8 @@ pub(crate) struct LaterOrders<'a> {
     pub(crate) kinds: usize,
 }
 
-/// Whether a colour is there.
-pub(crate) fn has(colours: &[u16], colour: u16) -> bool
+/// Whether a colour is one of some colours.
+pub fn has_colour(colours: &[u16], colour: u16) -> bool
     ensures { result ≡ holds colour colours.now }
 {
     for c in colours {
@@ -65,10 +66,10 @@ pub(crate) fn run_count(items: &[Item]) -> usize
 
 /// What some orders weigh together.
 pub(crate) fn weight_of(rest: &[Order]) -> usize
-    requires few { length rest.now ≤ 1024 }
+    requires few { length rest.now ≤ MAX_ORDERS }
     requires light { All IsOrder rest.now }
     ensures is { result ≡ load rest.now }
-    ensures small { result ≤ 1024 * 1000000 }
+    ensures small { result ≤ MAX_ORDERS * 1000000 }
 {
     let mut weight = 0;
     for order in rest {

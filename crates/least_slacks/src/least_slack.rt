@@ -15,6 +15,9 @@ ghost use Rattle.list_laws.specs.Sets.{different};
 ghost use Rattle.least_slacks.specs.Later.{IsLater, AreLayersOf, IsTableOf, HaveSame, others_of};
 ghost use Rattle.least_slacks.specs.Limits.{mill_within};
 ghost use Rattle.least_slacks.specs.Keys.{AreLeast, HasColours, HasRoom, IsMade};
+ghost use Rattle.mill_model.specs.declared.prices.TheConstants.{MAX_PRICE};
+ghost use Rattle.mill_model.specs.declared.order.TheConstants.{MAX_ORDERS};
+ghost use Rattle.mill_model.specs.declared.charges.TheConstants.{MAX_CHARGE};
 
 use crate::best_prices::{NOTHING, add_left_out, best_of};
 use crate::colour_layers::{add_colours, copy_layer, spread_layer};
@@ -26,9 +29,9 @@ use std::alloc::Global;
 
 /// What a charge takes from the prices of a set.
 fn paid(charge: u64) -> i64
-    requires { charge ≤ 100000000 }
+    requires { charge ≤ MAX_CHARGE }
     ensures is { result ≡ neg_ℤ (pos (60 * charge)) }
-    ensures small { IsSmall 20000000000 result }
+    ensures small { IsSmall MAX_PRICE result }
 {
     -((60 * charge) as i64)
 }
@@ -36,7 +39,7 @@ fn paid(charge: u64) -> i64
 /// The greatest gain of the sets of a table, beside a load.
 fn best_gain(table: &[i64], charges: &[u64], load: usize) -> i64
     requires reach { load + length table.now ≤ length charges.now }
-    requires small { All (λ charge. charge ≤ 100000000) charges.now }
+    requires small { All (λ charge. charge ≤ MAX_CHARGE) charges.now }
     requires few { length table.now ≤ 20001 }
     requires near { AreNear 300000000000000000 table.now }
     ensures top { (allowed : ℕ → Bool) → (own : List ℕ) → (k : ℕ) → (rest : List Order) →
@@ -510,7 +513,7 @@ pub fn least_slacks(
     prices: &[i64],
     keys: &[Key],
 ) -> Result<Option<Vec<i64>>, OutOfMemory>
-    requires few { length rest.now ≤ 1024 }
+    requires few { length rest.now ≤ MAX_ORDERS }
     requires orders { All IsOrder rest.now }
     requires same { length prices.now ≡ length rest.now }
     requires priced { All IsPrice prices.now }

@@ -58,8 +58,8 @@ colours-same items t h p same =
     let long = length-take t items in
     let before = value-held (λ (item : Item). item.colour) (take t items) (t - 1) no_item
     (omega (arith, long)) in
-    let here : holds c colours ≡ true = rw (get_or-take t items (t - 1) no_item (omega arith), ← same)
-    at before in
+    let here : holds c colours ≡ true =
+    rw (get_or-take t items (t - 1) no_item (omega arith), ← same) at before in
     rw (colours-on items t h, different-push c colours, here) refl
 
 -- the orders have no colour that their items lack

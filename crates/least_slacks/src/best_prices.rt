@@ -59,7 +59,8 @@ pub(crate) fn raise_cells(
     requires price { IsSmall MAX_PRICE price }
     ensures cells { (l : ℕ) → l < width → cell tables.new (at + l) ≡
         cond (leb weight l)
-        (better (cell tables.old (at + l)) (with_price price (cell tables.old (from + (l - weight)))))
+        (better (cell tables.old (at + l))
+        (with_price price (cell tables.old (from + (l - weight)))))
         (cell tables.old (at + l)) }
     ensures other { (i : ℕ) → i < at ⊎ at + width ≤ i →
         slice_index_or tables.new i (pos 0) ≡ slice_index_or tables.old i (pos 0) }

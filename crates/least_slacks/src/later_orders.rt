@@ -1,3 +1,5 @@
+// The later orders, colour by colour.
+
 ghost use Rattle.std.specs.Prelude.{◌≡◌, ◌≤◌, ◌*◌, ℕ, IfOk, All, length, map};
 ghost use Rattle.list_laws.specs.Sets.{holds, different};
 ghost use Rattle.mill_model.specs.Slab.{load};

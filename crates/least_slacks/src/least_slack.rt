@@ -89,8 +89,8 @@ fn fill_layers(
     add_colours(tables, table, later, out, layers);
 }
 
-/// What the tables stand for: so many layers of a width, of the orders that have none of the colours
-/// `out`, and one table up to `reach`, of all orders for the slabs that have these among so many
+/// What the tables stand for: so many layers of a width, of the orders that have none of the
+/// colours `out`, and one table up to `reach`, of all orders for the slabs that have these among so many
 /// colours.
 #[derive(Clone, Copy)]
 pub(crate) struct Made {
@@ -129,8 +129,8 @@ fn fill_front(
     fill_layers(front, &mut one[..width], later, out, count);
 }
 
-/// Makes a table that of a slab which has the colours that were left out, from the layer that begins
-/// at `at`.
+/// Makes a table that of a slab which has the colours that were left out, from the layer that
+/// begins at `at`.
 fn join_layer(table: &mut [i64], layers: &[i64], later: &LaterOrders, out: &[u16], at: usize)
     requires later { IsLater later.now }
     requires inside { at + length table.old ≤ length layers.now }

@@ -33,6 +33,7 @@ returns-else-has_colour-clause-best c own k have p =
     (joined_to c.args.later.now c.args.out.now c.args.t)
     (joined_to c.args.later.now c.args.out.now (c.args.t + 1)) own k
     (length c.args.table.now) (cell c.args.table.now)
-    (λ i b. other-joined c.args.later.now.rest.now c.args.later.now.items.now c.requires.later.sorted
+    (λ i b. other-joined c.args.later.now.rest.now c.args.later.now.items.now
+    c.requires.later.sorted
     c.args.out.now
     c.args.t c.requires.here h i) p

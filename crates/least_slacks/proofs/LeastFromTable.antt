@@ -14,11 +14,14 @@ use Rattle.set_minima.specs.Packs.{IsTop}
 use Rattle.set_minima.specs.Joins.{gain, Joins, IsSlab, all_places, opposite}
 use Rattle.set_minima.proofs.Gains.{gain-within}
 use Rattle.set_minima.proofs.Least.{on-is}
+use Rattle.mill_model.specs.declared.prices.TheConstants.{MAX_PRICE}
+use Rattle.mill_model.specs.declared.order.TheConstants.{MAX_ORDERS}
+use Rattle.mill_model.specs.declared.charges.TheConstants.{MAX_CHARGE}
 use Rattle.least_slacks.specs.Cells.{found, IsSmall, ArePrices}
 
 -- each charge is small, also past the last one
-charge-small : (charges : List ℕ) → All (λ charge. charge ≤ 100000000) charges → (l : ℕ) →
-    get_or charges l 0 ≤ 100000000
+charge-small : (charges : List ℕ) → All (λ charge. charge ≤ MAX_CHARGE) charges → (l : ℕ) →
+    get_or charges l 0 ≤ MAX_CHARGE
 charge-small charges h l = elim (cases_lt l (length charges)) [
   | inl b ↦ h l 0 b
   | inr b ↦ rw (get_or_past charges l 0 b) (omega arith)
@@ -63,8 +66,8 @@ module _ (rest : List Order) (prices : List ℤ) (charges own : List ℕ) (load 
   }
 
   -- it is the gain of a set, and so not large
-  pub small-from : length prices ≤ 1024 → ArePrices prices →
-      All (λ charge. charge ≤ 100000000) charges → IsSmall 30000000000000 (neg_ℤ best)
+  pub small-from : length prices ≤ MAX_ORDERS → ArePrices prices →
+      All (λ charge. charge ≤ MAX_CHARGE) charges → IsSmall 30000000000000 (neg_ℤ best)
   small-from n priced small =
       go (int_lt best (neg_ℤ (pos 2305843009213693952))) refl
     where
@@ -73,11 +76,11 @@ module _ (rest : List Order) (prices : List ℤ) (charges own : List ℕ) (load 
       go true q = absurd (top.none (rw q) (nothing (length rest)) none-joins)
       go false q =
           let s = top.some best (rw q) in
-          let g = gain-within 20000000000 100000000 charge load rest prices s.0 priced
+          let g = gain-within MAX_PRICE MAX_CHARGE charge load rest prices s.0 priced
           (charge-small charges small) in
           within (length prices) best (gain charge load rest prices s.0) s.2 n g.0 g.1
         where
-          within : (n : ℕ) (b g : ℤ) → b ≡ g → n ≤ 1024 →
-              neg_ℤ (pos (n * 20000000000 + 60 * 100000000)) ≤ℤ g →
-              g ≤ℤ pos (n * 20000000000 + 60 * 100000000) → IsSmall 30000000000000 (neg_ℤ b)
+          within : (n : ℕ) (b g : ℤ) → b ≡ g → n ≤ MAX_ORDERS →
+              neg_ℤ (pos (n * MAX_PRICE + 60 * MAX_CHARGE)) ≤ℤ g →
+              g ≤ℤ pos (n * MAX_PRICE + 60 * MAX_CHARGE) → IsSmall 30000000000000 (neg_ℤ b)
           within n b g e l lo hi = (omega (arith, ints), omega (arith, ints))

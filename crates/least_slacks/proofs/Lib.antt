@@ -4,3 +4,4 @@ pub mod ItemsLetIn
 pub mod LayersRaised
 pub mod OrdersByColour
 pub mod LeastFromTable
+mod ColoursCounted

@@ -2,6 +2,7 @@
 -- no set.
 use Rattle.std.specs.Prelude.{ℕ, ◌<◌, ◌⊎◌, cond, List, ℤ, pos, neg_ℤ, ◌-ℤ◌, ◌+ℤ◌, ◌≤ℤ◌, int_lt}
 use Rattle.std.specs.Prelude.{Option, Some, None, slice_index_or}
+use Rattle.mill_model.specs.declared.prices.TheConstants.{MAX_PRICE}
 
 -- - 2 ^ 62, and half of it: from there on a number stands for a set
 abbrev pub nothing : ℤ
@@ -31,4 +32,4 @@ abbrev pub IsSmall : ℕ → ℤ → Type 0
 IsSmall n x = (neg_ℤ (pos n) ≤ℤ x) × (x ≤ℤ pos n)
 
 abbrev pub ArePrices : List ℤ → Type 0
-ArePrices prices = (i : ℕ) → IsSmall 20000000000 (slice_index_or prices i (pos 0))
+ArePrices prices = (i : ℕ) → IsSmall MAX_PRICE (slice_index_or prices i (pos 0))

@@ -8,9 +8,10 @@ use Rattle.set_minima.specs.Joins.{AreOrders}
 use Rattle.least_slacks.specs.Cells.{cell, ArePrices}
 use Rattle.least_slacks.specs.Items.{AreItems, IsRun, let_in, joined_in, others}
 use Rattle.least_slacks.specs.declared.later_orders.LaterOrders.{LaterOrders}
+use Rattle.mill_model.specs.declared.order.TheConstants.{MAX_ORDERS}
 
 pub record IsLater (later : LaterOrders) : Type 0 where
-  pub few : length later.rest.now ≤ 1024
+  pub few : length later.rest.now ≤ MAX_ORDERS
   pub same : length later.prices.now ≡ length later.rest.now
   pub orders : AreOrders later.rest.now
   pub priced : ArePrices later.prices.now

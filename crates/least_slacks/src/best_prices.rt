@@ -8,8 +8,10 @@ ghost use Rattle.set_minima.specs.Joins.{all_places};
 ghost use Rattle.least_slacks.specs.Cells.{cell, found, IsNear, AreNear, IsSmall};
 ghost use Rattle.least_slacks.specs.Later.{IsLater, IsTableOf, IsRunOf, HaveSame, let_to};
 ghost use Rattle.least_slacks.specs.Later.{joined_to, others_of};
+ghost use Rattle.mill_model.specs.Limits.{all_prices};
+ghost use Rattle.mill_model.specs.declared.prices.TheConstants.{MAX_PRICE};
 
-use crate::later_orders::{Item, LaterOrders, has};
+use crate::later_orders::{Item, LaterOrders, has_colour};
 
 /// Stands in a table where there is no set.
 pub(crate) const NOTHING: i64 = -4_611_686_018_427_387_904;
@@ -18,9 +20,9 @@ pub(crate) const NOTHING: i64 = -4_611_686_018_427_387_904;
 pub(crate) fn best_of(here: i64, below: i64, price: i64) -> i64
     requires here { IsNear (2 ^ 60) here }
     requires below { IsNear (2 ^ 59) below }
-    requires price { IsSmall 20000000000 price }
+    requires price { IsSmall MAX_PRICE price }
     ensures is { found result ≡ better (found here) (with_price price (found below)) }
-    ensures near { (n : ℕ) → IsNear n here → IsNear n below → IsNear (n + 20000000000) result }
+    ensures near { (n : ℕ) → IsNear n here → IsNear n below → IsNear (n + MAX_PRICE) result }
 {
     here.max(below + price)
 }
@@ -29,13 +31,13 @@ pub(crate) fn best_of(here: i64, below: i64, price: i64) -> i64
 fn add_order(table: &mut [i64], weight: usize, price: i64)
     requires weight { 0 < weight }
     requires near { AreNear (2 ^ 59) table.old }
-    requires price { IsSmall 20000000000 price }
+    requires price { IsSmall MAX_PRICE price }
     ensures cells { (l : ℕ) → l < length table.old → cell table.new l ≡
         cond (leb weight l)
         (better (cell table.old l) (with_price price (cell table.old (l - weight))))
         (cell table.old l) }
     ensures near { (n : ℕ) → AreNear n table.old →
-        AreNear (n + 20000000000) table.new }
+        AreNear (n + MAX_PRICE) table.new }
 {
     for l in (weight..table.len()).rev() {
         table[l] = best_of(table[l], table[l - weight], price);
@@ -54,14 +56,15 @@ pub(crate) fn raise_cells(
     requires apart { from + width ≤ at }
     requires inside { at + width ≤ length tables.old }
     requires near { AreNear (2 ^ 59) tables.old }
-    requires price { IsSmall 20000000000 price }
+    requires price { IsSmall MAX_PRICE price }
     ensures cells { (l : ℕ) → l < width → cell tables.new (at + l) ≡
         cond (leb weight l)
-        (better (cell tables.old (at + l)) (with_price price (cell tables.old (from + (l - weight)))))
+        (better (cell tables.old (at + l))
+        (with_price price (cell tables.old (from + (l - weight)))))
         (cell tables.old (at + l)) }
     ensures other { (i : ℕ) → i < at ⊎ at + width ≤ i →
         slice_index_or tables.new i (pos 0) ≡ slice_index_or tables.old i (pos 0) }
-    ensures near { (n : ℕ) → AreNear n tables.old → AreNear (n + 20000000000) tables.new }
+    ensures near { (n : ℕ) → AreNear n tables.old → AreNear (n + MAX_PRICE) tables.new }
 {
     for l in weight..width {
         tables[at + l] = best_of(tables[at + l], tables[from + (l - weight)], price);
@@ -79,7 +82,7 @@ fn add_item(table: &mut [i64], later: &LaterOrders, item: Item)
         IsTableOf later.now before own k (length table.old) (cell table.old) →
         IsTableOf later.now after own k (length table.old) (cell table.new) }
     ensures near { (n : ℕ) → AreNear n table.old →
-        AreNear (n + 20000000000) table.new }
+        AreNear (n + MAX_PRICE) table.new }
 {
     let weight = later.rest[item.place].weight as usize;
     add_order(table, weight, later.prices[item.place]);
@@ -98,7 +101,7 @@ pub(crate) fn add_run(table: &mut [i64], later: &LaterOrders, at: usize, end: us
         IsTableOf later.now (let_to later.now out end) (colour ∷ []) k
         (length table.old) (cell table.new) }
     ensures near { (n : ℕ) → AreNear n table.old →
-        AreNear (n + 20480000000000) table.new }
+        AreNear (n + all_prices) table.new }
 {
     for t in at..end {
         add_item(table, later, later.items[t]);
@@ -116,10 +119,10 @@ fn consider(table: &mut [i64], later: &LaterOrders, out: &[u16], t: usize)
         IsTableOf later.now (joined_to later.now out.now (t + 1)) own k
         (length table.old) (cell table.new) }
     ensures near { (n : ℕ) → AreNear n table.old →
-        AreNear (n + 20000000000) table.new }
+        AreNear (n + MAX_PRICE) table.new }
 {
     let item = later.items[t];
-    if has(out, item.colour) {
+    if has_colour(out, item.colour) {
         add_item(table, later, item);
     }
 }

@@ -7,9 +7,11 @@ ghost use Rattle.least_slacks.specs.Cells.{cell, AreNear};
 ghost use Rattle.least_slacks.specs.Items.{IsStretch, item_at, no_place};
 ghost use Rattle.least_slacks.specs.Later.{IsLater, IsTableOf, AreLayersOf, IsRunOf, let_to};
 ghost use Rattle.least_slacks.specs.Later.{others_of};
+ghost use Rattle.mill_model.specs.Limits.{all_prices};
+ghost use Rattle.mill_model.specs.declared.prices.TheConstants.{MAX_PRICE};
 
 use crate::best_prices::{add_run, raise_cells};
-use crate::later_orders::{Item, LaterOrders, has};
+use crate::later_orders::{Item, LaterOrders, has_colour};
 
 /// Copies the layer that begins at `at` into a table.
 pub(crate) fn copy_layer(table: &mut [i64], tables: &[i64], at: usize)
@@ -74,7 +76,7 @@ fn raise_by_run(
     ensures other { (i : ℕ) → i < t * length table.old ⊎
         t * length table.old + length table.old ≤ i →
         slice_index_or tables.new i (pos 0) ≡ slice_index_or tables.old i (pos 0) }
-    ensures near { (n : ℕ) → AreNear n tables.old → AreNear (n + 20480000000000) tables.new }
+    ensures near { (n : ℕ) → AreNear n tables.old → AreNear (n + all_prices) tables.new }
 {
     let width = table.len();
     copy_layer(table, tables, (t - 1) * width);
@@ -99,7 +101,7 @@ fn raise_by_order(tables: &mut [i64], later: &LaterOrders, at: usize, width: usi
         (λ l. cell tables.new (t * width + l)) }
     ensures other { (i : ℕ) → i < t * width ⊎ t * width + width ≤ i →
         slice_index_or tables.new i (pos 0) ≡ slice_index_or tables.old i (pos 0) }
-    ensures near { (n : ℕ) → AreNear n tables.old → AreNear (n + 20000000000) tables.new }
+    ensures near { (n : ℕ) → AreNear n tables.old → AreNear (n + MAX_PRICE) tables.new }
 {
     let place = later.items[at].place;
     let weight = later.rest[place].weight as usize;
@@ -132,7 +134,7 @@ fn raise_layer(
     ensures other { (i : ℕ) → i < t * length table.old ⊎
         t * length table.old + length table.old ≤ i →
         slice_index_or tables.new i (pos 0) ≡ slice_index_or tables.old i (pos 0) }
-    ensures near { (n : ℕ) → AreNear n tables.old → AreNear (n + 20480000000000) tables.new }
+    ensures near { (n : ℕ) → AreNear n tables.old → AreNear (n + all_prices) tables.new }
 {
     if run.1 == run.0 + 1 {
         raise_by_order(tables, later, run.0, table.len(), t);
@@ -161,7 +163,7 @@ fn add_colour(
         (length table.old) tables.old →
         AreLayersOf later.now (let_to later.now out run.1) layers
         (length table.old) tables.new }
-    ensures near { (n : ℕ) → AreNear n tables.old → AreNear (n + 184320000000000) tables.new }
+    ensures near { (n : ℕ) → AreNear n tables.old → AreNear (n + (9 * all_prices)) tables.new }
 {
     for t in (1..layers).rev() {
         raise_layer(tables, table, later, run, t);
@@ -217,9 +219,9 @@ fn add_next(
         (length table.old) tables.old →
         AreLayersOf later.now (let_to later.now out.now run.1) layers
         (length table.old) tables.new }
-    ensures near { (n : ℕ) → AreNear n tables.old → AreNear (n + 184320000000000) tables.new }
+    ensures near { (n : ℕ) → AreNear n tables.old → AreNear (n + (9 * all_prices)) tables.new }
 {
-    if !has(out, later.items[run.0].colour) {
+    if !has_colour(out, later.items[run.0].colour) {
         add_colour(tables, table, later, run, layers);
     }
 }

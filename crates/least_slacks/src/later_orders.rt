@@ -1,8 +1,11 @@
-ghost use Rattle.std.specs.Prelude.{◌≡◌, ◌≤◌, ◌*◌, ℕ, IfOk, All, length};
-ghost use Rattle.list_laws.specs.Sets.{holds};
+// The later orders, colour by colour.
+
+ghost use Rattle.std.specs.Prelude.{◌≡◌, ◌≤◌, ◌*◌, ℕ, IfOk, All, length, map};
+ghost use Rattle.list_laws.specs.Sets.{holds, different};
 ghost use Rattle.mill_model.specs.Slab.{load};
 ghost use Rattle.mill_model.specs.Instance.{IsOrder};
 ghost use Rattle.least_slacks.specs.Items.{AreItems};
+ghost use Rattle.mill_model.specs.declared.order.TheConstants.{MAX_ORDERS};
 
 use mill_model::{Order, OutOfMemory};
 use std::alloc::Global;
@@ -25,8 +28,8 @@ pub(crate) struct LaterOrders<'a> {
     pub(crate) kinds: usize,
 }
 
-/// Whether a colour is there.
-pub(crate) fn has(colours: &[u16], colour: u16) -> bool
+/// Whether a colour is one of some colours.
+pub fn has_colour(colours: &[u16], colour: u16) -> bool
     ensures { result ≡ holds colour colours.now }
 {
     for c in colours {
@@ -50,12 +53,25 @@ pub(crate) fn by_colour(alloc: Global, rest: &[Order]) -> Result<Vec<Item>, OutO
     Ok(items)
 }
 
+/// How many runs of one colour items have: as many as colours, where they stand colour by colour.
+pub(crate) fn run_count(items: &[Item]) -> usize
+    ensures { different (map (λ item. item.colour) items.now) ≤ result }
+{
+    let mut count = 0;
+    for t in 0..items.len() {
+        if t == 0 || items[t].colour != items[t - 1].colour {
+            count += 1;
+        }
+    }
+    count
+}
+
 /// What some orders weigh together.
 pub(crate) fn weight_of(rest: &[Order]) -> usize
-    requires few { length rest.now ≤ 1024 }
+    requires few { length rest.now ≤ MAX_ORDERS }
     requires light { All IsOrder rest.now }
     ensures is { result ≡ load rest.now }
-    ensures small { result ≤ 1024 * 1000000 }
+    ensures small { result ≤ MAX_ORDERS * 1000000 }
 {
     let mut weight = 0;
     for order in rest {

@@ -15,20 +15,23 @@ ghost use Rattle.list_laws.specs.Sets.{different};
 ghost use Rattle.least_slacks.specs.Later.{IsLater, AreLayersOf, IsTableOf, HaveSame, others_of};
 ghost use Rattle.least_slacks.specs.Limits.{mill_within};
 ghost use Rattle.least_slacks.specs.Keys.{AreLeast, HasColours, HasRoom, IsMade};
+ghost use Rattle.mill_model.specs.declared.prices.TheConstants.{MAX_PRICE};
+ghost use Rattle.mill_model.specs.declared.order.TheConstants.{MAX_ORDERS};
+ghost use Rattle.mill_model.specs.declared.charges.TheConstants.{MAX_CHARGE};
 
 use crate::best_prices::{NOTHING, add_left_out, best_of};
 use crate::colour_layers::{add_colours, copy_layer, spread_layer};
 use crate::key::{Key, NO_COLOUR};
-use crate::later_orders::{LaterOrders, by_colour, weight_of};
+use crate::later_orders::{LaterOrders, by_colour, run_count, weight_of};
 use crate::limits::SlabLimits;
 use mill_model::{Order, OutOfMemory};
 use std::alloc::Global;
 
 /// What a charge takes from the prices of a set.
 fn paid(charge: u64) -> i64
-    requires { charge ≤ 100000000 }
+    requires { charge ≤ MAX_CHARGE }
     ensures is { result ≡ neg_ℤ (pos (60 * charge)) }
-    ensures small { IsSmall 20000000000 result }
+    ensures small { IsSmall MAX_PRICE result }
 {
     -((60 * charge) as i64)
 }
@@ -36,7 +39,7 @@ fn paid(charge: u64) -> i64
 /// The greatest gain of the sets of a table, beside a load.
 fn best_gain(table: &[i64], charges: &[u64], load: usize) -> i64
     requires reach { load + length table.now ≤ length charges.now }
-    requires small { All (λ charge. charge ≤ 100000000) charges.now }
+    requires small { All (λ charge. charge ≤ MAX_CHARGE) charges.now }
     requires few { length table.now ≤ 20001 }
     requires near { AreNear 300000000000000000 table.now }
     ensures top { (allowed : ℕ → Bool) → (own : List ℕ) → (k : ℕ) → (rest : List Order) →
@@ -86,8 +89,8 @@ fn fill_layers(
     add_colours(tables, table, later, out, layers);
 }
 
-/// What the tables stand for: so many layers of a width, of the orders that have none of the colours
-/// `out`, and one table up to `reach`, of all orders for the slabs that have these among so many
+/// What the tables stand for: so many layers of a width, of the orders that have none of the
+/// colours `out`, and one table up to `reach`, of all orders for the slabs that have these among so many
 /// colours.
 #[derive(Clone, Copy)]
 pub(crate) struct Made {
@@ -126,8 +129,8 @@ fn fill_front(
     fill_layers(front, &mut one[..width], later, out, count);
 }
 
-/// Makes a table that of a slab which has the colours that were left out, from the layer that begins
-/// at `at`.
+/// Makes a table that of a slab which has the colours that were left out, from the layer that
+/// begins at `at`.
 fn join_layer(table: &mut [i64], layers: &[i64], later: &LaterOrders, out: &[u16], at: usize)
     requires later { IsLater later.now }
     requires inside { at + length table.old ≤ length layers.now }
@@ -510,7 +513,7 @@ pub fn least_slacks(
     prices: &[i64],
     keys: &[Key],
 ) -> Result<Option<Vec<i64>>, OutOfMemory>
-    requires few { length rest.now ≤ 1024 }
+    requires few { length rest.now ≤ MAX_ORDERS }
     requires orders { All IsOrder rest.now }
     requires same { length prices.now ≡ length rest.now }
     requires priced { All IsPrice prices.now }
@@ -533,7 +536,7 @@ pub fn least_slacks(
         prices,
         items: &items,
         weight: weight_of(rest),
-        kinds: rest.len(),
+        kinds: run_count(&items),
     };
     let layers = &mut tables.layers;
     let one = &mut tables.one;

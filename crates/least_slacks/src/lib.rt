@@ -12,5 +12,6 @@ mod least_slack;
 mod limits;
 
 pub use key::{Key, NO_COLOUR};
+pub use later_orders::has_colour;
 pub use least_slack::{SlackTables, least_slacks};
 pub use limits::SlabLimits;

@@ -2,7 +2,7 @@
 use Rattle.std.proofs.Common.{ℕ, zero, suc, ◌+◌, ◌<◌, ◌≤◌, ◌≡◌, ◌⊎◌, Bool, true, false, cond, ◌&&◌}
 use Rattle.std.proofs.Common.{◌||◌, List, [], ◌∷◌, ◌++◌, map, length, take, get_or, eqb, leb, refl}
 use Rattle.std.proofs.Common.{sym, ap, ap₂, ◌∙◌, subst, arith, inl, inr, length-append, eq-eqb}
-use Rattle.std.proofs.Common.{ne_eqb, eqb-true, replicate, set, get_or-set_same, get_or-set_other}
+use Rattle.std.proofs.Common.{ne_eqb, eqb-true, set, get_or-set_same, get_or-set_other}
 use Rattle.std.proofs.Common.{◌*◌, ◌≢◌}
 use Rattle.std.proofs.lemmas.List.{take_all, length-set, append-nil, get_or_past, map-append}
 use Rattle.list_laws.specs.Sets.{holds, different}
@@ -109,15 +109,6 @@ pub record GroupsTo (groups : List Seen) (path : List ℕ) (ranked : List Order)
     pub seen : (g : ℕ) → g < next_new path → IsSeen (get_or groups g nothing_seen)
         (slab g (take i path) ranked)
     pub light : (g : ℕ) → g < next_new path → (get_or groups g nothing_seen).load ≤ i * 1000000
-
-replicate-at : (n g : ℕ) → get_or (replicate n nothing_seen) g nothing_seen ≡ nothing_seen
-replicate-at zero g = refl
-replicate-at (suc n) zero = refl
-replicate-at (suc n) (suc g) = replicate-at n g
-
-replicate-length : (n : ℕ) → length (replicate n nothing_seen) ≡ n
-replicate-length zero = refl
-replicate-length (suc n) = ap suc (replicate-length n)
 
 pub groups-more : (groups : List Seen) (path : List ℕ) (ranked : List Order) (i : ℕ) (d : Order) →
     i < length path → i < length ranked → (get_or ranked i d).weight ≤ 1000000 →

@@ -18,7 +18,7 @@ use Rattle.list_laws.specs.Sets.{holds, times, same_list, same_times}
 use Rattle.mill_model.specs.Slab.{Mill}
 use Rattle.mill_model.specs.LiveKey.{has_colour, same_marks}
 use Rattle.mill_model.specs.declared.order.Order.{Order}
-use Rattle.list_laws.proofs.Tests.{either, and-left, and-right}
+use Rattle.list_laws.proofs.Tests.{either, and-left, and-right, equal-tests}
 use Rattle.list_laws.proofs.Times.{same_list-refl, same_list-eq, same_times-all}
 use Rattle.list_laws.proofs.Among.{Among-unmap, all-from}
 use Rattle.mill_laws.proofs.Mated.{same_marks-refl}
@@ -31,12 +31,6 @@ use Rattle.log_checker.specs.declared.keys.LiveGroup.{LiveGroup}
 use Rattle.log_checker.proofs.ComingColours.{coming-same, same-coming}
 use Rattle.log_checker.proofs.LiveGroups.{both-ways}
 use Rattle.log_checker.proofs.Sorted.{InOrder, in-order-from, ordered-same, times-moved}
-
--- equal truth values from both ways
-bools : (a b : Bool) → (a ≡ true → b ≡ true) → (b ≡ true → a ≡ true) → a ≡ b
-bools true b f g = sym (f refl)
-bools false true f g = g refl
-bools false false f g = refl
 
 -- the later orders see the same of two groups exactly where the same colours come again
 alike : (p q : ℕ → Bool) (rest : List Order) → same_marks (map (λ o. p o.colour) rest)
@@ -82,7 +76,7 @@ key-same rest a b x y low s t =
     ap₂ (λ u v. u && v)
     (ap₂ (λ u v. u && v) (ap₂ (λ m n. eqb m n) (sym s.weighs) (sym t.weighs))
     (ap₂ (λ m n. eqb m n) (sym s.counts) (sym t.counts)))
-    (bools (same_marks (marks rest a) (marks rest b)) (same_list x.coming y.coming) there back)
+    (equal-tests (same_marks (marks rest a) (marks rest b)) (same_list x.coming y.coming) there back)
   where
     there : same_marks (marks rest a) (marks rest b) ≡ true → same_list x.coming y.coming ≡ true
     there h =
@@ -278,7 +272,7 @@ module _ (rest : List Order) (low : All (λ o. o.colour < 65535) rest) where
       let y = ap₂ (λ u v. u && v)
       (each-keys first first second p p q s.live.keys s.live.keys t.live.keys)
       (each-keys second first second q p q t.live.keys s.live.keys t.live.keys) in
-      bools (same_keys a b) (same_times same_key (map key_in p) (map key_in q)) there back
+      equal-tests (same_keys a b) (same_times same_key (map key_in p) (map key_in q)) there back
       ∙ both-ways same_key (map key_in p) (map key_in q) ∙ sym (x ∙ y)
     where
       moved-a : (k : Key) → times same_key k (map key_in a) ≡ times same_key k (map key_in s.plain)

@@ -17,4 +17,5 @@ pub mod Pass
 pub mod Unique
 pub mod LegalGroups
 pub mod SlacksOfGroups
+pub mod ChildOrder
 pub mod OneRecord

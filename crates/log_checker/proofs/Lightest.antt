@@ -12,14 +12,11 @@ use Rattle.list_laws.specs.Sets.{holds}
 use Rattle.mill_model.specs.Slab.{Mill}
 use Rattle.mill_model.specs.LiveKey.{has_colour}
 use Rattle.mill_model.specs.declared.order.Order.{Order}
-use Rattle.list_laws.proofs.Tests.{either, or-right, or-cases, and-left, and-right}
+use Rattle.list_laws.proofs.Tests.{either, or-right, or-cases, and-left, and-right, clash}
 use Rattle.list_laws.proofs.Among.{Among, any-among, any-from}
 use Rattle.log_checker.specs.Groups.{Seen, joined, may_be, no_order, with_colour}
 use Rattle.log_checker.specs.Setting.{AreEnds}
 use Rattle.log_checker.specs.Live.{IsLightest, AreNone, lives, takes_of}
-
-clash : (b : Bool) → b ≡ true → b ≡ false → ⊥
-clash b t f = cc
 
 abbrev Falls : List Order → Type 0
 Falls ranked =

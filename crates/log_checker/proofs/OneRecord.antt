@@ -1,7 +1,7 @@
 -- One record of a pass.
 use Rattle.std.proofs.Common.{ℕ, zero, suc, ◌+◌, ◌<◌, ◌≤◌, ◌≡◌, Bool, true, false, cond, List, []}
 use Rattle.std.proofs.Common.{◌∷◌, ◌++◌, length, drop, get_or, map, refl, sym, ap, ◌∙◌, subst}
-use Rattle.std.proofs.Common.{arith, leb, leb-true, ltb-true, filter, ltb, lt-ltb, ◌-◌}
+use Rattle.std.proofs.Common.{arith, ltb-true, filter, ltb, lt-ltb, ◌-◌}
 use Rattle.std.proofs.lemmas.List.{drop_more, reverse-append, append-nil, drop_all}
 use Rattle.std.specs.List.{list_all}
 use Rattle.list_laws.specs.Sets.{same_list, below}
@@ -10,7 +10,7 @@ use Rattle.mill_model.specs.Log.{Task, recorded, left_open}
 use Rattle.mill_model.specs.declared.closing.Entry.{Entry}
 use Rattle.list_laws.proofs.Tests.{and-left, and-right}
 use Rattle.refute_log.specs.Rising.{rises}
-use Rattle.refute_log.specs.Fits.{path_fits, fits}
+use Rattle.refute_log.specs.Fits.{path_fits}
 use Rattle.log_checker.specs.Verdict.{holds_up, verdict_from, IsVerdict}
 use Rattle.log_checker.specs.Agenda.{wanted_path, to_come, is_within, opened, opened_from}
 use Rattle.log_checker.proofs.WaitingPaths.{opened-come}
@@ -38,17 +38,6 @@ pub rest-from : (log : List Entry) (i : ℕ) (e : Entry) → i < length log → 
     drop i log ≡ e ∷ drop (i + 1) log
 rest-from log i e h q = drop_more log i e h ∙ ap (λ x. x ∷ drop (i + 1) log) (sym q)
 
-pub fits-at : (n : ℕ) (log : List Entry) (i : ℕ) (e : Entry) → list_all (fits n) log ≡ true →
-    i < length log → e ≡ get_or log i e → fits n e ≡ true
-fits-at n log i e a h q = subst (λ x. fits n x ≡ true) (sym q) (at log i a h)
-  where
-    at : (log : List Entry) (i : ℕ) → list_all (fits n) log ≡ true → i < length log →
-        fits n (get_or log i e) ≡ true
-    at [] i a h = absurd (omega arith)
-    at (x ∷ log) zero a h = and-left (fits n x) (list_all (fits n) log) a
-    at (x ∷ log) (suc i) a h =
-        at log i (and-right (fits n x) (list_all (fits n) log) a) (omega arith)
-
 pub numbers-few : (n : ℕ) (path : List ℕ) → path_fits n path ≡ true → next_new path ≤ n
 numbers-few n path h = go path (and-right _ (list_all (λ g. ltb g n) path) h)
   where
@@ -59,10 +48,6 @@ numbers-few n path h = go path (and-right _ (list_all (λ g. ltb g n) path) h)
         ltb-true g n (and-left (ltb g n) (list_all (λ g. ltb g n) path) h) in
         let ih : next_new path ≤ n =
         go path (and-right (ltb g n) (list_all (λ g. ltb g n) path) h) in omega arith
-
-pub path-short : (n : ℕ) (path : List ℕ) → path_fits n path ≡ true → length path ≤ n
-path-short n path h =
-    leb-true (length path) n (and-left (leb (length path) n) (list_all (λ g. ltb g n) path) h)
 
 -- what is to come, before and after the last waiting one is taken
 pub come-push : (log : List Entry) (old new : List Wanted) (w : Wanted) → old ≡ new
@@ -150,24 +135,24 @@ module _ (task : Task) (bound : ℕ) (log : List Entry) (i : ℕ) (e : Entry) (p
       bound log (path ∷ to_come log mid) (e ∷ drop (i + 1) log)
   verdict-here = rw (come-push log old mid w popped, rest-from log i e here is, named) refl
 
-  pub step-unsound : same_list path e.path ≡ true → holds_up task bound log e ≡ false →
+  pub record-unsound : same_list path e.path ≡ true → holds_up task bound log e ≡ false →
       verdict_from task bound log (to_come log old) (drop i log) ≡ verdicts.Unsound path
-  step-unsound s h =
+  record-unsound s h =
       verdict-here ∙ verdict-unsound task bound log path (to_come log mid) e (drop (i + 1) log) s h
 
-  pub step-goes : same_list path e.path ≡ true → holds_up task bound log e ≡ true → new ≡ mid
+  pub record-goes-on : same_list path e.path ≡ true → holds_up task bound log e ≡ true → new ≡ mid
       ++ opened_from task.mill task.ranked e.path i e.closing →
       verdict_from task bound log (to_come log new) (drop (i + 1) log) ≡ verdict_from task bound log
       (to_come log old) (drop i log)
-  step-goes s h n =
+  record-goes-on s h n =
       sym (verdict-here ∙ verdict-next task bound log path (to_come log mid) e (drop (i + 1) log) s
       h ∙ ap (λ ps. verdict_from task bound log ps (drop (i + 1) log)) (sym (ap (to_come log) n
       ∙ opened-by-come task log mid e.path i e.closing (recorded-at log i e here is))))
 
-  pub step-within : list_all (is_within (length log)) old ≡ true → new ≡ mid
+  pub record-within : list_all (is_within (length log)) old ≡ true → new ≡ mid
       ++ opened_from task.mill task.ranked e.path i e.closing →
       list_all (is_within (length log)) new ≡ true
-  step-within h n =
+  record-within h n =
       rw n (within-both (length log) mid (opened_from task.mill task.ranked e.path i e.closing)
       (within-left (length log) mid (w ∷ []) (rw popped at h))
       (opened-by-within task.mill task.ranked e.path (length log) i e.closing here))

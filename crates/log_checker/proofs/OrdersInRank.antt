@@ -32,9 +32,6 @@ neither-before a b h k =
     let c : a.colour ≡ b.colour = grind (arith, nat_tests) in
     ap₂ (λ w c. record { weight = w; colour = c }) w c
 
-not-self : (a : Order) → is_before a a ≡ false
-not-self a = grind (arith, nat_tests)
-
 -- the orders in rank are one list
 rank-unique : (xs ys : List Order) → InRank xs → InRank ys →
     ((o : Order) → times same_order o xs ≡ times same_order o ys) → xs ≡ ys

@@ -1,21 +1,11 @@
 -- Paths that part: they differ at a place, the first by the smaller number.
 use Rattle.std.proofs.Common.{ℕ, zero, suc, ◌<◌, ◌≡◌, ◌⊎◌, Bool, true, false, cond, ◌&&◌, ◌||◌}
 use Rattle.std.proofs.Common.{List, [], ◌∷◌, ◌++◌, map, filter, eqb, ltb, refl, ap, arith, inl, inr}
-use Rattle.std.proofs.Common.{eqb-true, ltb-true}
 use Rattle.list_laws.specs.Sets.{below}
-use Rattle.list_laws.proofs.Tests.{and-left, and-right, either}
+use Rattle.list_laws.proofs.Tests.{either, head-cases}
 use Rattle.list_laws.proofs.Among.{Among, below-lt}
 use Rattle.refute_log.specs.Rising.{comes_before}
 use Rattle.refute_log.proofs.Order.{head-less, head-same}
-
--- how the heads of two paths that are in order compare
-head-cases : (g h : ℕ) (b : Bool) → (ltb g h || (eqb g h && b)) ≡ true →
-    (g < h) ⊎ ((g ≡ h) × (b ≡ true))
-head-cases g h b e = elim (either (ltb g h)) [
-  | inl l ↦ inl (ltb-true g h l)
-  | inr l ↦ (let k : (eqb g h && b) ≡ true = rw l at e in
-      inr (eqb-true g h (and-left (eqb g h) b k), and-right (eqb g h) b k))
-]
 
 -- whether two paths part, the first by the smaller number
 abbrev pub parts : List ℕ → List ℕ → Bool

@@ -1,15 +1,6 @@
 -- The limits of what a log is judged by.
 use Rattle.std.proofs.Common.{ℕ, zero, suc, ◌<◌, ◌≤◌, ◌≡◌, List, [], ◌∷◌, length, get_or}
 use Rattle.std.proofs.Common.{All, sym, subst, arith}
-use Rattle.mill_model.specs.Instance.{IsSize, largest}
-
--- each of some sizes is within the limit, so the largest is
-pub largest-small : (sizes : List ℕ) → All IsSize sizes → largest sizes ≤ 20000
-largest-small [] h = omega arith
-largest-small (size ∷ sizes) h =
-    let first = h 0 0 (omega arith) in
-    let ih : largest sizes ≤ 20000 = largest-small sizes (λ k d l. h (suc k) d (omega arith)) in
-    omega (arith, first.1)
 
 -- a list taken whole is within a limit where each of its numbers is
 pub all-small : (xs ys : List ℕ) (n : ℕ) → ys ≡ xs → length xs ≤ n →

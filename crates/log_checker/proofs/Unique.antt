@@ -6,7 +6,7 @@ use Rattle.list_laws.specs.Sets.{same_list}
 use Rattle.mill_model.specs.Log.{Task, sound, names_settled, Refutes}
 use Rattle.mill_model.specs.declared.closing.Entry.{Entry}
 use Rattle.list_laws.proofs.Times.{same_list-eq}
-use Rattle.list_laws.proofs.Tests.{either}
+use Rattle.list_laws.proofs.Tests.{either, clash}
 use Rattle.refute_log.specs.Rising.{comes_before}
 use Rattle.refute_log.proofs.Order.{before-total}
 use Rattle.log_checker.specs.Verdict.{is_recorded, is_wanted, fails_at, is_missing, is_stray}
@@ -14,9 +14,6 @@ use Rattle.log_checker.specs.Verdict.{is_unsound, is_wrong, IsFirst, IsVerdict}
 use Rattle.log_checker.specs.declared.verdict.LogVerdict.{LogVerdict}
 use Rattle.log_checker.specs.declared.verdict.LogVerdict.TheVariants as verdicts
 use Rattle.log_checker.proofs.Counted.{each_holds_up, right-not_wrong}
-
-clash : (b : Bool) → b ≡ true → b ≡ false → ⊥
-clash b t f = cc
 
 -- in a log that refutes a loss each record holds up
 upheld-where : (task : Task) (bound : ℕ) (log : List Entry) (p : List ℕ) (es : List Entry) →

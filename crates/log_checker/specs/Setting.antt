@@ -4,15 +4,17 @@ use Rattle.std.specs.Prelude.{drop, ltb}
 use Rattle.mill_model.specs.Instance.{IsOrder}
 use Rattle.mill_model.specs.LiveKey.{has_colour}
 use Rattle.mill_model.specs.declared.order.Order.{Order}
+use Rattle.mill_model.specs.declared.order.TheConstants.{MAX_ORDERS}
+use Rattle.mill_model.specs.declared.charges.TheConstants.{MAX_CHARGE}
 
 -- orders in rank, a charge of each load up to the largest size, and the limits of both
 pub record IsSetting (ranked : List Order) (charges : List ℕ) (largest most_colours : ℕ) : Type 0
   where
-    pub few : length ranked ≤ 1024
+    pub few : length ranked ≤ MAX_ORDERS
     pub orders : All IsOrder ranked
     pub reach : length charges ≡ largest + 1
     pub none : slice_index charges 0 ≡ 0
-    pub small : All (λ charge. charge ≤ 100000000) charges
+    pub small : All (λ charge. charge ≤ MAX_CHARGE) charges
     pub size : largest ≤ 20000
     pub colours : most_colours ≤ 8
     pub falls :

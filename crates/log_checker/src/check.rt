@@ -3,7 +3,7 @@ ghost use Rattle.std.specs.Prelude.{OnOk, IfSome, IfNone, true, false, List, con
 ghost use Rattle.std.specs.List.{list_all};
 ghost use Rattle.list_laws.specs.Sets.{same_list};
 ghost use Rattle.mill_model.specs.Log.{recorded, left_open, Refutes as LogRefutes};
-ghost use Rattle.refute_log.specs.Rising.{comes_before, rises};
+ghost use Rattle.refute_log.specs.Rising.{comes_before, path_order, rises};
 ghost use Rattle.refute_log.specs.Fits.{path_fits, fits};
 ghost use Rattle.mill_model.specs.Instance.{mill_of};
 ghost use Rattle.mill_model.specs.Plan.{NoneLosesLess};
@@ -50,17 +50,45 @@ fn missing(alloc: Global, log: &[Entry], wanted: Wanted) -> Result<LogVerdict, O
     Ok(LogVerdict::Missing { path })
 }
 
-/// What is wrong where a record stands at another path than the next one that is wanted.
-fn misplaced(path: &Path, entry: &Entry) -> Result<Option<LogVerdict>, OutOfMemory>
-    ensures apart { IfOk result (λ found. IfSome found (λ v.
-        (same_list path.now entry.now.path ≡ false)
-        × (v ≡ cond (comes_before path.now entry.now.path) (Missing path.now)
-        (Stray entry.now.path)))) }
-    ensures same { IfOk result (λ found.
-        IfNone found (same_list path.now entry.now.path ≡ true)) }
+/// Compares the child of a path with another path.
+fn compare_child(parent: &[u16], group: u16, path: &[u16]) -> Ordering
+    ensures { result ≡ path_order (parent.now ++ group ∷ []) path.now }
 {
-    match compare(path.numbers(), entry.path.numbers()) {
-        Ordering::Less => Ok(Some(LogVerdict::Missing { path: path.copy()? })),
+    let (front, rest) = path.split_at(parent.len().min(path.len()));
+    compare(parent, front).then(compare(&[group], rest))
+}
+
+/// Compares the path that is named with another path.
+fn compare_wanted(log: &[Entry], wanted: Wanted, path: &[u16]) -> Ordering
+    requires { is_within (length log.now) wanted ≡ true }
+    ensures { result ≡ path_order (wanted_path log.now wanted) path.now }
+{
+    match wanted {
+        Wanted::Root => compare(&[], path),
+        Wanted::Child { parent, group } => compare_child(log[parent].path.numbers(), group, path),
+    }
+}
+
+/// What is wrong where a record stands at another path than the next one that is wanted.
+fn misplaced(
+    alloc: Global,
+    log: &[Entry],
+    wanted: Wanted,
+    entry: &Entry,
+) -> Result<Option<LogVerdict>, OutOfMemory>
+    requires { is_within (length log.now) wanted ≡ true }
+    ensures apart { IfOk result (λ found. IfSome found (λ v.
+        (same_list (wanted_path log.now wanted) entry.now.path ≡ false)
+        × (v ≡ cond (comes_before (wanted_path log.now wanted) entry.now.path)
+        (Missing (wanted_path log.now wanted)) (Stray entry.now.path)))) }
+    ensures same { IfOk result (λ found.
+        IfNone found (same_list (wanted_path log.now wanted) entry.now.path ≡ true)) }
+{
+    match compare_wanted(log, wanted, entry.path.numbers()) {
+        Ordering::Less => {
+            let verdict = missing(alloc, log, wanted)?;
+            Ok(Some(verdict))
+        }
         Ordering::Greater => Ok(Some(LogVerdict::Stray {
             path: entry.path.copy()?,
         })),
@@ -91,7 +119,7 @@ fn open(
 }
 
 /// Judges one record, where the last waiting path is the next one that is wanted.
-fn step(
+fn judge_record(
     alloc: Global,
     waiting: &mut Vec<Wanted>,
     rules: &Rules,
@@ -122,13 +150,13 @@ fn step(
         let path = entry.path.copy()?;
         return Ok(Some(LogVerdict::Stray { path }));
     };
-    let path = path_of(alloc, log, wanted)?;
-    match misplaced(&path, entry)? {
+    match misplaced(alloc, log, wanted, entry)? {
         Some(verdict) => return Ok(Some(verdict)),
         None => {}
     }
     let good = holds_up(alloc, rules, tables, loss, log, entry)?;
     if !good {
+        let path = entry.path.copy()?;
         return Ok(Some(LogVerdict::Unsound { path }));
     }
     open(alloc, waiting, rules, entry, i)?;
@@ -151,7 +179,7 @@ fn check_by(
     let mut waiting = Vec::new(alloc);
     waiting.push(Wanted::Root)?;
     for i in 0..log.len() {
-        let found = step(alloc, &mut waiting, rules, &mut tables, loss, log, i)?;
+        let found = judge_record(alloc, &mut waiting, rules, &mut tables, loss, log, i)?;
         match found {
             Some(verdict) => return Ok(verdict),
             None => {}

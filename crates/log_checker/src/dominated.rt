@@ -6,6 +6,7 @@ ghost use Rattle.mill_model.specs.Tree.{in_tree, next_new, may_go_on, goes_on};
 ghost use Rattle.refute_log.specs.Rising.{rises};
 ghost use Rattle.log_checker.specs.Groups.{nothing_seen, IsSeen};
 ghost use Rattle.log_checker.specs.ByRules.{mill_by};
+ghost use Rattle.mill_model.specs.declared.order.TheConstants.{MAX_ORDERS};
 
 use crate::groups::{Group, empty_groups, group_count, join_at};
 use crate::rules::Rules;
@@ -51,7 +52,7 @@ fn goes_on_at(rules: &Rules, groups: &[Group], path: &[u16], k: usize, count: us
     requires seen { IsSeen (slice_index_or groups.now (slice_index path.now k) nothing_seen)
         (slab (slice_index path.now k) (take k path.now) rules.now.ranked.items) }
     requires light { (slice_index_or groups.now (slice_index path.now k) nothing_seen).load
-        ≤ 1024 * 1000000 }
+        ≤ MAX_ORDERS * 1000000 }
     requires count { count ≡ next_new (take k path.now) }
     ensures { result ≡ may_go_on (mill_by rules.now) rules.now.ranked.items (take k path.now)
         (slice_index path.now k) }

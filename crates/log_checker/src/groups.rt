@@ -1,33 +1,21 @@
 ghost use Rattle.std.specs.Prelude.{◌≡◌, ◌<◌, ◌≤◌, ◌^◌, ◌+◌, ◌*◌, ℕ, [], OnOk, IfOk, length};
 ghost use Rattle.std.specs.Prelude.{replicate, slice_index_or, slice_set};
 ghost use Rattle.mill_model.specs.Tree.{next_new};
-ghost use Rattle.list_laws.specs.Sets.{holds};
 ghost use Rattle.log_checker.specs.Groups.{joined, may_be, with_colour, nothing_seen, AreGroups};
 ghost use Rattle.log_checker.specs.ByRules.{mill_by};
 
 use crate::rules::Rules;
+use least_slacks::has_colour;
 use mill_model::{Order, OutOfMemory};
 use smallvec::SmallVec;
 use std::alloc::Global;
 use std::marker::Model;
 
-/// Whether a colour is there.
-pub(crate) fn has(colours: &[u16], colour: u16) -> bool
-    ensures { result ≡ holds colour colours.now }
-{
-    for c in colours {
-        if colour == *c {
-            return true;
-        }
-    }
-    false
-}
-
 /// Adds a colour that isn't there yet.
 fn note_colour(colours: &mut SmallVec<u16, 8>, colour: u16) -> Result<(), OutOfMemory>
     ensures { OnOk result (colours.new.items ≡ with_colour colour colours.old.items) }
 {
-    if !has(colours.as_slice(), colour) {
+    if !has_colour(colours.as_slice(), colour) {
         colours.push(colour)?;
     }
     Ok(())
@@ -38,7 +26,7 @@ fn count_with(colours: &[u16], colour: u16) -> usize
     requires { length colours.now < 2 ^ 63 }
     ensures { result ≡ length (with_colour colour colours.now) }
 {
-    if has(colours, colour) {
+    if has_colour(colours, colour) {
         colours.len()
     } else {
         colours.len() + 1

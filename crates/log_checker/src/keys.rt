@@ -7,6 +7,7 @@ ghost use Rattle.log_checker.specs.ByRules.{mill_by};
 ghost use Rattle.log_checker.specs.Live.{lives, same_live_seen};
 ghost use Rattle.log_checker.specs.Keys.{key_order, key_in, IsKey, AreLive, AreComing, comes_in};
 ghost use Rattle.log_checker.specs.Keys.{AreSorted, same_key, same_keys};
+ghost use Rattle.mill_model.specs.declared.order.TheConstants.{MAX_ORDERS};
 
 use crate::groups::Group;
 use crate::live::is_live;
@@ -79,7 +80,7 @@ fn sort(live: &mut Vec<LiveGroup>)
 fn live_group(rules: &Rules, groups: &[Group], k: usize, g: usize) -> Option<LiveGroup>
     requires here { g < length groups.now }
     requires rank { k ≤ length rules.now.ranked.items }
-    requires light { (slice_index_or groups.now g nothing_seen).load ≤ 1024 * 1000000 }
+    requires light { (slice_index_or groups.now g nothing_seen).load ≤ MAX_ORDERS * 1000000 }
     requires once { length (slice_index_or groups.now g nothing_seen).colours
         ≡ different (slice_index_or groups.now g nothing_seen).colours }
     ensures some { IfSome result (λ live. (live.group ≡ g)
@@ -105,7 +106,7 @@ fn live_groups(
     k: usize,
 ) -> Result<Vec<LiveGroup>, OutOfMemory>
     requires rank { k ≤ length rules.now.ranked.items }
-    requires light { (g : ℕ) → (slice_index_or groups.now g nothing_seen).load ≤ 1024 * 1000000 }
+    requires light { (g : ℕ) → (slice_index_or groups.now g nothing_seen).load ≤ MAX_ORDERS * 1000000 }
     requires once { (g : ℕ) → length (slice_index_or groups.now g nothing_seen).colours
         ≡ different (slice_index_or groups.now g nothing_seen).colours }
     ensures { IfOk result (λ live.
@@ -151,7 +152,7 @@ pub(crate) fn sorted_live(
     k: usize,
 ) -> Result<Vec<LiveGroup>, OutOfMemory>
     requires rank { k ≤ length rules.now.ranked.items }
-    requires light { (g : ℕ) → (slice_index_or groups.now g nothing_seen).load ≤ 1024 * 1000000 }
+    requires light { (g : ℕ) → (slice_index_or groups.now g nothing_seen).load ≤ MAX_ORDERS * 1000000 }
     requires once { (g : ℕ) → length (slice_index_or groups.now g nothing_seen).colours
         ≡ different (slice_index_or groups.now g nothing_seen).colours }
     ensures { IfOk result (λ live. AreSorted (mill_by rules.now) (drop k rules.now.ranked.items)
@@ -171,11 +172,11 @@ pub(crate) fn same_live(
     k: usize,
 ) -> Result<bool, OutOfMemory>
     requires rank { k ≤ length rules.now.ranked.items }
-    requires first_light { (g : ℕ) → (slice_index_or first.now g nothing_seen).load ≤ 1024 *
+    requires first_light { (g : ℕ) → (slice_index_or first.now g nothing_seen).load ≤ MAX_ORDERS *
         1000000 }
     requires first_once { (g : ℕ) → length (slice_index_or first.now g nothing_seen).colours
         ≡ different (slice_index_or first.now g nothing_seen).colours }
-    requires second_light { (g : ℕ) → (slice_index_or second.now g nothing_seen).load ≤ 1024 *
+    requires second_light { (g : ℕ) → (slice_index_or second.now g nothing_seen).load ≤ MAX_ORDERS *
         1000000 }
     requires second_once { (g : ℕ) → length (slice_index_or second.now g nothing_seen).colours
         ≡ different (slice_index_or second.now g nothing_seen).colours }

@@ -5,13 +5,14 @@ ghost use Rattle.list_laws.specs.Sets.{total};
 ghost use Rattle.log_checker.specs.Groups.{nothing_seen};
 ghost use Rattle.log_checker.specs.Live.{lives, takes_of};
 ghost use Rattle.log_checker.specs.ByRules.{mill_by};
+ghost use Rattle.mill_model.specs.declared.order.TheConstants.{MAX_ORDERS};
 
 use crate::groups::Group;
 use crate::rules::Rules;
 
 /// Whether an order of a colour, from a rank on, may join a group.
 fn takes_of(group: &Group, rules: &Rules, colour: u16, k: usize) -> bool
-    requires light { group.now.load ≤ 1024 * 1000000 }
+    requires light { group.now.load ≤ MAX_ORDERS * 1000000 }
     ensures { result ≡
         takes_of (mill_by rules.now) (drop k rules.now.ranked.items) group.now colour }
 {
@@ -23,7 +24,7 @@ fn takes_of(group: &Group, rules: &Rules, colour: u16, k: usize) -> bool
 
 /// Whether an order of an own colour, from a rank on, may join a group.
 fn takes_own(group: &Group, rules: &Rules, k: usize) -> bool
-    requires light { group.now.load ≤ 1024 * 1000000 }
+    requires light { group.now.load ≤ MAX_ORDERS * 1000000 }
     ensures { result ≡ list_any (takes_of (mill_by rules.now) (drop k rules.now.ranked.items)
         group.now) group.now.colours }
 {
@@ -37,7 +38,7 @@ fn takes_own(group: &Group, rules: &Rules, k: usize) -> bool
 
 /// Whether some order from a rank on may join a group.
 pub(crate) fn is_live(group: &Group, rules: &Rules, k: usize) -> bool
-    requires light { group.now.load ≤ 1024 * 1000000 }
+    requires light { group.now.load ≤ MAX_ORDERS * 1000000 }
     ensures { result ≡ lives (mill_by rules.now) (drop k rules.now.ranked.items) group.now }
 {
     // No other order may join a group that has as many colours as may be.
@@ -53,7 +54,7 @@ pub(crate) fn is_live(group: &Group, rules: &Rules, k: usize) -> bool
 /// What the groups that aren't live are charged.
 pub(crate) fn dead_charge(groups: &[Group], rules: &Rules, k: usize) -> u64
     requires few { length groups.now ≤ 65536 }
-    requires light { (g : ℕ) → (slice_index_or groups.now g nothing_seen).load ≤ 1024 * 1000000 }
+    requires light { (g : ℕ) → (slice_index_or groups.now g nothing_seen).load ≤ MAX_ORDERS * 1000000 }
     ensures { result ≡ total (length groups.now) (λ g. cond (lives (mill_by rules.now) (drop k
         rules.now.ranked.items) (slice_index_or groups.now g nothing_seen)) 0 (slice_index
         rules.now.charges.items (slice_index_or groups.now g nothing_seen).load)) }

@@ -15,6 +15,7 @@ ghost use Rattle.log_checker.specs.Groups.{AreGroups, nothing_seen};
 ghost use Rattle.log_checker.specs.ByRules.{mill_by, task_by};
 ghost use Rattle.log_checker.specs.Keys.{AreSorted, key_in};
 ghost use Rattle.log_checker.specs.Slacks.{AreSlacks, slack_of};
+ghost use Rattle.mill_model.specs.declared.order.TheConstants.{MAX_ORDERS};
 
 use crate::groups::{Group, groups_of};
 use crate::keys::{LiveGroup, sorted_live};
@@ -88,7 +89,7 @@ fn slacks_of(
 
 /// The sum of some numbers.
 fn sum_of(numbers: &[i64]) -> i64
-    requires few { length numbers.now ≤ 1024 }
+    requires few { length numbers.now ≤ MAX_ORDERS }
     requires small { All (IsSmall 30000000000000) numbers.now }
     ensures is { result ≡ int_sum numbers.now }
     ensures small { IsSmall 30720000000000000 result }

@@ -4,6 +4,7 @@ ghost use Rattle.mill_model.specs.LiveKey.{has_colour};
 ghost use Rattle.log_checker.specs.Groups.{no_order};
 ghost use Rattle.log_checker.specs.Live.{IsLightest, AreNone};
 ghost use Rattle.log_checker.specs.Setting.{IsSetting, AreEnds};
+ghost use Rattle.mill_model.specs.declared.charges.TheConstants.{MAX_CHARGE};
 
 use least_slacks::SlabLimits;
 use mill_model::Order;
@@ -80,7 +81,7 @@ impl Rules {
     /// What a load is charged: nothing where no slab holds it.
     pub(crate) fn charge(&self, load: u64) -> u64
         ensures is { result ≡ slice_index self.now.charges.items load }
-        ensures small { result ≤ 100000000 }
+        ensures small { result ≤ MAX_CHARGE }
     {
         if load < self.charges.len() as u64 {
             self.charges[load as usize]

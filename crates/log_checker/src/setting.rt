@@ -8,6 +8,7 @@ ghost use Rattle.mill_model.specs.Charges.{charge_of, Reaches};
 ghost use Rattle.mill_model.specs.Instance.{mill_of};
 ghost use Rattle.mill_model.specs.Log.{task_of};
 ghost use Rattle.log_checker.specs.ByRules.{task_by};
+ghost use Rattle.mill_model.specs.declared.charges.TheConstants.{MAX_CHARGE};
 
 use crate::rules::Rules;
 use mill_model::{Charges, Instance, Order, OutOfMemory};
@@ -35,7 +36,7 @@ fn table(alloc: Global, charges: &Charges, largest: u32) -> Result<Vec<u64>, Out
     requires small { largest ≤ 20000 }
     ensures is { IfOk result (λ table. table.items ≡ charges.now.list) }
     ensures none { IfOk result (λ table. slice_index table.items 0 ≡ 0) }
-    ensures limit { IfOk result (λ table. All (λ charge. charge ≤ 100000000) table.items) }
+    ensures limit { IfOk result (λ table. All (λ charge. charge ≤ MAX_CHARGE) table.items) }
 {
     let mut table = Vec::with_capacity(alloc, largest as usize + 1)?;
     for load in 0..largest + 1 {

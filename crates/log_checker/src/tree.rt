@@ -7,6 +7,7 @@ ghost use Rattle.log_checker.specs.Groups.{joined, may_be, nothing_seen, IsSeen,
 ghost use Rattle.log_checker.specs.ByRules.{mill_by};
 ghost use Rattle.log_checker.specs.Agenda.{opened};
 ghost use Rattle.log_checker.specs.declared.agenda.Wanted.TheVariants.{Child};
+ghost use Rattle.mill_model.specs.declared.order.TheConstants.{MAX_ORDERS};
 
 use crate::agenda::Wanted;
 use crate::groups::Group;
@@ -56,7 +57,7 @@ fn may_join(rules: &Rules, groups: &[Group], g: usize, order: Order) -> bool
 pub(crate) fn may_go_on(rules: &Rules, groups: &[Group], path: &[u16], g: u16) -> bool
     requires seen { IsSeen (slice_index_or groups.now g nothing_seen)
         (slab g path.now rules.now.ranked.items) }
-    requires light { (slice_index_or groups.now g nothing_seen).load ≤ 1024 * 1000000 }
+    requires light { (slice_index_or groups.now g nothing_seen).load ≤ MAX_ORDERS * 1000000 }
     requires within { length path.now < length rules.now.ranked.items }
     requires near { g ≤ next_new path.now }
     ensures { result ≡ may_go_on (mill_by rules.now) rules.now.ranked.items path.now g }
@@ -97,7 +98,7 @@ pub(crate) fn open_children(
 ) -> Result<(), OutOfMemory>
     requires groups { AreGroups groups.now path.now rules.now.ranked.items }
     requires within { length path.now < length rules.now.ranked.items }
-    requires few { next_new path.now ≤ 1024 }
+    requires few { next_new path.now ≤ MAX_ORDERS }
     ensures { OnOk result (waiting.new.items ≡ waiting.old.items
         ++ opened (may_go_on (mill_by rules.now) rules.now.ranked.items path.now) parent
         (next_new path.now + 1) (next_new path.now + 1)) }

@@ -1,6 +1,7 @@
 use Rattle.std.proofs.Common.{◌≡◌, ℕ, ◌+◌, ◌-◌, ◌<◌, ◌≤◌, leb, cond, length, slice_index_or, pos}
 use Rattle.set_minima.specs.Packs.{better, with_price}
 use Rattle.least_slacks.specs.Cells.{cell, AreNear}
+use Rattle.mill_model.specs.declared.prices.TheConstants.{MAX_PRICE}
 use Rattle.least_slacks.proofs.best_prices.add_order.Given as goal
 
 abbrev pub invariant-loop-l : goal.invariant-loop-l
@@ -12,5 +13,5 @@ invariant-loop-l l = record {
       (cell l.initial.table k);
   old : (k : ℕ) → k < l.l →
       slice_index_or l.table k (pos 0) ≡ slice_index_or l.initial.table k (pos 0);
-  near : (n : ℕ) → AreNear n l.initial.table → AreNear (n + 20000000000) l.table;
+  near : (n : ℕ) → AreNear n l.initial.table → AreNear (n + MAX_PRICE) l.table;
 }

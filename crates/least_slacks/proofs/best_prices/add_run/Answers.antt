@@ -1,3 +1,4 @@
+-- Item by item: the table has the orders of the run before `t`.
 use Rattle.std.proofs.Common.{[], true, ◌≡◌, ◌+◌, ◌-◌, ◌*◌, ◌∷◌, false, get_or, pos, length, arith}
 use Rattle.std.proofs.Common.{subst, sym, eq-eqb, eqb, refl}
 use Rattle.list_laws.specs.Sets.{holds}
@@ -8,11 +9,13 @@ use Rattle.least_slacks.specs.Items.{item_at}
 use Rattle.least_slacks.specs.Later.{let_to, IsTableOf}
 use Rattle.least_slacks.proofs.CellNumbers.{near-wider}
 use Rattle.least_slacks.proofs.ItemsLetIn.{next-let_in, table-width}
+use Rattle.mill_model.specs.Limits.{all_prices}
+use Rattle.mill_model.specs.declared.prices.TheConstants.{MAX_PRICE}
 use Rattle.least_slacks.proofs.best_prices.add_run.Goals as goal
 
 pub add_item-requires-clause-near : goal.add_item-requires-clause-near
 add_item-requires-clause-near c l =
-    near-wider (288230376151711744 + (c.loop-t.t - c.args.at) * 20000000000) 576460752303423488
+    near-wider (288230376151711744 + (c.loop-t.t - c.args.at) * MAX_PRICE) 576460752303423488
     (get_or c.loop-t.table l (pos 0))
     (omega (arith, c.requires.later.few, c.requires.later.sorted.count, c.requires.ends))
     (c.loop-t.invariant.near 288230376151711744 c.requires.near l)
@@ -21,7 +24,7 @@ pub loop-t-init : goal.loop-t-init
 loop-t-init c = record {
   best = λ out colour k run p. p;
   near = λ n h l.
-      near-wider n (n + (c.args.at - c.args.at) * 20000000000) (get_or c.args.table.now l (pos 0))
+      near-wider n (n + (c.args.at - c.args.at) * MAX_PRICE) (get_or c.args.table.now l (pos 0))
       (omega arith) (h l);
 }
 
@@ -51,10 +54,10 @@ loop-t-preserved c = record {
       (length c.args.table.now) (length c.loop-t.table) (cell c.loop-t.table) (sym w)
       (c.loop-t.invariant.best out colour k run p)));
   near = λ n h l.
-      near-wider (n + (c.loop-t.t - c.args.at) * 20000000000 + 20000000000)
-      (n + (c.loop-t.t + 1 - c.args.at) * 20000000000) (get_or c.add_item.new.table l (pos 0))
+      near-wider (n + (c.loop-t.t - c.args.at) * MAX_PRICE + MAX_PRICE)
+      (n + (c.loop-t.t + 1 - c.args.at) * MAX_PRICE) (get_or c.add_item.new.table l (pos 0))
       (omega (arith, c.loop-t.auto.t))
-      (c.add_item.ensures.near (n + (c.loop-t.t - c.args.at) * 20000000000)
+      (c.add_item.ensures.near (n + (c.loop-t.t - c.args.at) * MAX_PRICE)
       (c.loop-t.invariant.near n h) l);
 }
 
@@ -67,7 +70,7 @@ returns-clause-best c out colour k run p =
 
 pub returns-clause-near : goal.returns-clause-near
 returns-clause-near c n h l =
-    near-wider (n + (c.loop-t.t - c.args.at) * 20000000000) (n + 20480000000000)
+    near-wider (n + (c.loop-t.t - c.args.at) * MAX_PRICE) (n + all_prices)
     (get_or c.loop-t.table l (pos 0))
     (omega (
       arith,

@@ -1,6 +1,7 @@
 use Rattle.std.proofs.Common.{ℕ, ◌+◌, ◌-◌, ◌*◌, List, [], ◌∷◌, length}
 use Rattle.least_slacks.specs.Cells.{cell, AreNear}
 use Rattle.least_slacks.specs.Later.{let_to, IsRunOf, IsTableOf}
+use Rattle.mill_model.specs.declared.prices.TheConstants.{MAX_PRICE}
 use Rattle.least_slacks.proofs.best_prices.add_run.Given as goal
 
 abbrev pub invariant-loop-t : goal.invariant-loop-t
@@ -12,5 +13,5 @@ invariant-loop-t l = record {
       IsTableOf l.later (let_to l.later out l.t) (colour ∷ []) k
       (length l.initial.table) (cell l.table);
   near :
-      (n : ℕ) → AreNear n l.initial.table → AreNear (n + (l.t - l.at) * 20000000000) l.table;
+      (n : ℕ) → AreNear n l.initial.table → AreNear (n + (l.t - l.at) * MAX_PRICE) l.table;
 }

@@ -1,3 +1,4 @@
+-- Load by load: the cells below `l` are bettered, and the others are as they were.
 use Rattle.std.proofs.Common.{◌≡◌, ◌+◌, ◌-◌, ◌<◌, ◌≤◌, ap, refl, inl, inr, get_or, pos}
 use Rattle.std.proofs.Common.{SFits, w64, to_z-of_z, rules, arith, leb, leb-true}
 use Rattle.std.proofs.Common.{leb-false, length, eqb, eqb-true}
@@ -7,13 +8,14 @@ use Rattle.list_laws.proofs.Tests.{either}
 use Rattle.least_slacks.specs.Cells.{found}
 use Rattle.least_slacks.proofs.CellNumbers.{near-wider}
 use Rattle.least_slacks.proofs.OneCell.{differ, raised-done, raised-other}
+use Rattle.mill_model.specs.declared.prices.TheConstants.{MAX_PRICE}
 use Rattle.least_slacks.proofs.best_prices.raise_cells.Goals as goal
 
 pub best_of-requires-clause-here : goal.best_of-requires-clause-here
 best_of-requires-clause-here c =
     let at = c.args.at + c.loop-l.l in
     let f : SFits w64 (get_or c.loop-l.tables at (pos 0)) = search rules in
-    simp to_z-of_z (near-wider (576460752303423488 + 20000000000) 1152921504606846976
+    simp to_z-of_z (near-wider (576460752303423488 + MAX_PRICE) 1152921504606846976
     (get_or c.loop-l.tables at (pos 0)) (omega arith)
     (c.loop-l.invariant.near 576460752303423488 c.requires.near at))
 
@@ -32,7 +34,7 @@ loop-l-init c = record {
   other = λ i h. refl;
   ends = inr (omega arith);
   near = λ n h l.
-      near-wider n (n + 20000000000) (get_or c.args.tables.now l (pos 0)) (omega arith) (h l);
+      near-wider n (n + MAX_PRICE) (get_or c.args.tables.now l (pos 0)) (omega arith) (h l);
 }
 
 pub loop-l-preserved : goal.loop-l-preserved

@@ -1,6 +1,7 @@
 use Rattle.std.proofs.Common.{◌≡◌, ℕ, ◌+◌, ◌-◌, ◌<◌, ◌≤◌, ◌⊎◌, slice_index_or, pos}
 use Rattle.set_minima.specs.Packs.{better, with_price}
 use Rattle.least_slacks.specs.Cells.{cell, AreNear}
+use Rattle.mill_model.specs.declared.prices.TheConstants.{MAX_PRICE}
 use Rattle.least_slacks.proofs.best_prices.raise_cells.Given as goal
 
 abbrev pub invariant-loop-l : goal.invariant-loop-l
@@ -13,5 +14,5 @@ invariant-loop-l l = record {
       (i : ℕ) → i < l.at + l.weight ⊎ l.at + l.l ≤ i →
       slice_index_or l.tables i (pos 0) ≡ slice_index_or l.initial.tables i (pos 0);
   ends : l.l ≤ l.width ⊎ l.l ≤ l.weight;
-  near : (n : ℕ) → AreNear n l.initial.tables → AreNear (n + 20000000000) l.tables;
+  near : (n : ℕ) → AreNear n l.initial.tables → AreNear (n + MAX_PRICE) l.tables;
 }

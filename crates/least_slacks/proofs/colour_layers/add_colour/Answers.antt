@@ -1,7 +1,9 @@
+-- From the last layer down: a layer is bettered by the one below, which lacks the colour so far.
 use Rattle.std.proofs.Common.{◌≡◌, ℕ, ◌+◌, ◌-◌, ◌*◌, ◌≤◌, ◌∙◌, length, get_or, pos, arith, inl}
 use Rattle.std.proofs.Common.{mul-le-mul_right}
 use Rattle.least_slacks.proofs.CellNumbers.{near-wider}
 use Rattle.least_slacks.proofs.LayersRaised.{done-raised, done-last}
+use Rattle.mill_model.specs.Limits.{all_prices}
 use Rattle.least_slacks.proofs.colour_layers.add_colour.Goals as goal
 
 pub raise_layer-requires-clause-inside : goal.raise_layer-requires-clause-inside
@@ -20,7 +22,7 @@ raise_layer-requires-clause-inside c =
 
 pub raise_layer-requires-clause-near : goal.raise_layer-requires-clause-near
 raise_layer-requires-clause-near c l =
-    near-wider (200000000000000000 + (c.args.layers - c.loop-t.t) * 20480000000000)
+    near-wider (200000000000000000 + (c.args.layers - c.loop-t.t) * all_prices)
     288230376151711744 (get_or c.loop-t.tables l (pos 0)) (omega (arith, c.requires.layers))
     (c.loop-t.invariant.near 200000000000000000 c.requires.near l)
 
@@ -29,7 +31,7 @@ loop-t-init c = record {
   done = λ out colour run layered s a b. absurd (omega arith);
   old = λ i h. λ j. get_or c.args.tables.now i (pos 0);
   near = λ n h l.
-      near-wider n (n + (c.args.layers - c.args.layers) * 20480000000000)
+      near-wider n (n + (c.args.layers - c.args.layers) * all_prices)
       (get_or c.args.tables.now l (pos 0)) (omega arith) (h l);
 }
 
@@ -53,10 +55,10 @@ loop-t-preserved c =
           mul-le-mul_right (length c.args.table.now) (omega arith) in
           other i (inl h) ∙ c.loop-t.invariant.old i (omega arith);
       near = λ n h l.
-          near-wider (n + (c.args.layers - c.loop-t.t) * 20480000000000 + 20480000000000)
-          (n + (c.args.layers - t) * 20480000000000) (get_or c.raise_layer.new.tables l (pos 0))
+          near-wider (n + (c.args.layers - c.loop-t.t) * all_prices + all_prices)
+          (n + (c.args.layers - t) * all_prices) (get_or c.raise_layer.new.tables l (pos 0))
           (omega (arith, c.loop-t-test.true, c.loop-t.auto.t))
-          (c.raise_layer.ensures.near (n + (c.args.layers - c.loop-t.t) * 20480000000000)
+          (c.raise_layer.ensures.near (n + (c.args.layers - c.loop-t.t) * all_prices)
           (c.loop-t.invariant.near n h) l);
     }
 
@@ -70,6 +72,6 @@ returns-clause-best c out colour run layered =
 
 pub returns-clause-near : goal.returns-clause-near
 returns-clause-near c n h l =
-    near-wider (n + (c.args.layers - c.loop-t.t) * 20480000000000) (n + 184320000000000)
+    near-wider (n + (c.args.layers - c.loop-t.t) * all_prices) (n + (9 * all_prices))
     (get_or c.loop-t.tables l (pos 0)) (omega (arith, c.requires.layers))
     (c.loop-t.invariant.near n h l)

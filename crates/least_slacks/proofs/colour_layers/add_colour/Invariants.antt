@@ -1,6 +1,8 @@
-use Rattle.std.proofs.Common.{◌≡◌, ℕ, List, [], ◌+◌, ◌-◌, ◌*◌, ◌<◌, ◌≤◌, length, pos, slice_index_or}
+use Rattle.std.proofs.Common.{◌≡◌, ℕ, List, [], ◌+◌, ◌-◌, ◌*◌, ◌<◌, ◌≤◌, length, pos}
+use Rattle.std.proofs.Common.{slice_index_or}
 use Rattle.least_slacks.specs.Cells.{cell, AreNear}
 use Rattle.least_slacks.specs.Later.{let_to, IsRunOf, IsTableOf, AreLayersOf}
+use Rattle.mill_model.specs.Limits.{all_prices}
 use Rattle.least_slacks.proofs.colour_layers.add_colour.Given as goal
 
 abbrev pub invariant-loop-t : goal.invariant-loop-t
@@ -18,5 +20,5 @@ invariant-loop-t l = record {
       slice_index_or l.tables i (pos 0) ≡ slice_index_or l.initial.tables i (pos 0);
   near :
       (n : ℕ) → AreNear n l.initial.tables →
-      AreNear (n + (l.layers - l.t) * 20480000000000) l.tables;
+      AreNear (n + (l.layers - l.t) * all_prices) l.tables;
 }

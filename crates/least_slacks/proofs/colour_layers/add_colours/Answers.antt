@@ -1,3 +1,4 @@
+-- Run by run: the layers have the orders of the runs before `at`.
 use Rattle.std.proofs.Common.{◌≡◌, [], ◌+◌, ◌*◌, length, get_or, pos, arith}
 use Rattle.least_slacks.specs.Cells.{cell}
 use Rattle.least_slacks.specs.Items.{IsStretch, no_place}
@@ -5,6 +6,7 @@ use Rattle.least_slacks.specs.Later.{let_to, others_of}
 use Rattle.least_slacks.proofs.CellNumbers.{near-wider}
 use Rattle.least_slacks.proofs.ItemsLetIn.{stretch-from, before-end, none-let_in, all-let_in}
 use Rattle.least_slacks.proofs.ItemsLetIn.{table-allowed}
+use Rattle.mill_model.specs.Limits.{all_prices}
 use Rattle.least_slacks.proofs.colour_layers.add_colours.Goals as goal
 
 pub add_next-requires-clause-stretch : goal.add_next-requires-clause-stretch
@@ -25,13 +27,13 @@ loop-at-init c = record {
       (length c.args.table.now) (λ l. cell c.args.tables.now (t * length c.args.table.now + l))
       (λ i h. none-let_in c.args.later.now.rest.now c.args.later.now.items.now c.args.out.now i)
       (p t b);
-  near = λ l. near-wider 0 (0 * 184320000000000)
+  near = λ l. near-wider 0 (0 * (9 * all_prices))
       (get_or c.args.tables.now l (pos 0)) (omega arith) (c.requires.near l);
 }
 
 pub add_next-requires-clause-near : goal.add_next-requires-clause-near
 add_next-requires-clause-near c l =
-    near-wider (c.loop-at.at * 184320000000000) 200000000000000000
+    near-wider (c.loop-at.at * (9 * all_prices)) 200000000000000000
     (get_or c.loop-at.tables l (pos 0))
     (omega (arith, c.requires.later.few, c.requires.later.sorted.count, c.loop-at-test.true))
     (c.loop-at.invariant.near l)
@@ -51,10 +53,10 @@ loop-at-preserved c =
       border = before-end c.args.later.now.items.now c.loop-at.at c.run_end-end.result run;
       best = λ p. best (c.loop-at.invariant.best p);
       near = λ l.
-          near-wider (c.loop-at.at * 184320000000000 + 184320000000000)
-          (c.run_end-end.result * 184320000000000)
+          near-wider (c.loop-at.at * (9 * all_prices) + (9 * all_prices))
+          (c.run_end-end.result * (9 * all_prices))
           (get_or c.add_next.new.tables l (pos 0)) (omega (arith, c.run_end-end.ensures.some))
-          (c.add_next.ensures.near (c.loop-at.at * 184320000000000)
+          (c.add_next.ensures.near (c.loop-at.at * (9 * all_prices))
           c.loop-at.invariant.near l);
     }
 
@@ -71,7 +73,7 @@ returns-clause-best c p t b =
 
 pub returns-clause-near : goal.returns-clause-near
 returns-clause-near c l =
-    near-wider (c.loop-at.at * 184320000000000) 200000000000000000
+    near-wider (c.loop-at.at * (9 * all_prices)) 200000000000000000
     (get_or c.loop-at.tables l (pos 0))
     (omega (arith, c.requires.later.few, c.requires.later.sorted.count, c.loop-at.invariant.inside))
     (c.loop-at.invariant.near l)

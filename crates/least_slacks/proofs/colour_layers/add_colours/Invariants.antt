@@ -2,6 +2,7 @@ use Rattle.std.proofs.Common.{ℕ, ◌-◌, ◌*◌, ◌<◌, ◌≤◌, length}
 use Rattle.least_slacks.specs.Cells.{AreNear}
 use Rattle.least_slacks.specs.Items.{item_at, no_place}
 use Rattle.least_slacks.specs.Later.{let_to, AreLayersOf}
+use Rattle.mill_model.specs.Limits.{all_prices}
 use Rattle.least_slacks.proofs.colour_layers.add_colours.Given as goal
 
 abbrev pub invariant-loop-at : goal.invariant-loop-at
@@ -15,7 +16,7 @@ invariant-loop-at l = record {
       (length l.initial.table) l.initial.tables →
       AreLayersOf l.later (let_to l.later l.out l.at) l.layers
       (length l.initial.table) l.tables;
-  near : AreNear (l.at * 184320000000000) l.tables;
+  near : AreNear (l.at * (9 * all_prices)) l.tables;
 }
 
 abbrev pub decreases-loop-at : goal.decreases-loop-at

@@ -7,6 +7,7 @@ use Rattle.least_slacks.specs.Cells.{cell, found}
 use Rattle.least_slacks.specs.Items.{let_in}
 use Rattle.least_slacks.proofs.CellNumbers.{found-max}
 use Rattle.least_slacks.proofs.LayersRaised.{near-copied, near-layer}
+use Rattle.mill_model.specs.Limits.{all_prices}
 use Rattle.least_slacks.proofs.colour_layers.raise_by_run.Goals as goal
 
 pub returns-clause-best : goal.returns-clause-best
@@ -37,7 +38,7 @@ pub returns-clause-near : goal.returns-clause-near
 returns-clause-near c n h =
     let width = length c.args.table.now in
     let n1 : length c.copy_layer.new.table ≡ width = c.copy_layer.auto.table in
-    near-layer n (n + 20480000000000) (c.args.t * width) c.args.tables.now
+    near-layer n (n + all_prices) (c.args.t * width) c.args.tables.now
     c.better_layer.new.tables c.add_run.new.table (omega arith) h
     (c.add_run.ensures.near n (near-copied n ((c.args.t - 1) * width) c.args.tables.now
     c.copy_layer.new.table (λ l b. c.copy_layer.ensures l (omega arith)) h))

@@ -1,3 +1,4 @@
+-- Load by load: the best gain so far is the greatest over the loads below `l`.
 use Rattle.std.proofs.Common.{◌≡◌, suc, ◌+◌, ◌*◌, length, get_or, slice_index}
 use Rattle.std.proofs.Common.{pos}
 use Rattle.std.proofs.Common.{SFits, w64, to_z-of_z, to_z, rules, arith, sym, subst}
@@ -6,6 +7,7 @@ use Rattle.set_minima.specs.Joins.{gain, Packed}
 use Rattle.set_minima.proofs.Gains.{gain-more}
 use Rattle.least_slacks.specs.Cells.{cell, found}
 use Rattle.least_slacks.proofs.CellNumbers.{near-wider}
+use Rattle.mill_model.specs.declared.prices.TheConstants.{MAX_PRICE}
 use Rattle.least_slacks.proofs.least_slack.best_gain.Goals as goal
 
 pub loop-l-preserved : goal.loop-l-preserved
@@ -29,11 +31,11 @@ loop-l-preserved c =
           (c.loop-l.invariant.top allowed own k rest prices p)
           (p c.loop-l.l (omega arith))));
       near =
-          near-wider (300000000000000000 + c.loop-l.l * 20000000000 + 20000000000)
-          (300000000000000000 + (c.loop-l.l + 1) * 20000000000) c.best_of-best.result
-          (omega arith) (n (300000000000000000 + c.loop-l.l * 20000000000)
+          near-wider (300000000000000000 + c.loop-l.l * MAX_PRICE + MAX_PRICE)
+          (300000000000000000 + (c.loop-l.l + 1) * MAX_PRICE) c.best_of-best.result
+          (omega arith) (n (300000000000000000 + c.loop-l.l * MAX_PRICE)
           c.loop-l.invariant.near
-          (near-wider 300000000000000000 (300000000000000000 + c.loop-l.l * 20000000000)
+          (near-wider 300000000000000000 (300000000000000000 + c.loop-l.l * MAX_PRICE)
           (get_or c.args.table.now c.loop-l.l (pos 0)) (omega arith)
           (c.requires.near c.loop-l.l)));
     })
@@ -48,6 +50,6 @@ returns-clause-top c allowed own k rest prices p =
 
 pub returns-clause-near : goal.returns-clause-near
 returns-clause-near c =
-    near-wider (300000000000000000 + c.loop-l.l * 20000000000) 576460752303423488
+    near-wider (300000000000000000 + c.loop-l.l * MAX_PRICE) 576460752303423488
     (to_z w64 c.loop-l.best-bits) (omega (arith, c.loop-l.auto.l-end, c.requires.few))
     c.loop-l.invariant.near

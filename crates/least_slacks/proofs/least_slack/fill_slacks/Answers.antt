@@ -1,5 +1,8 @@
-use Rattle.std.proofs.Common.{◌≡◌, ◌≢◌, ℕ, ℤ, List, ◌+◌, ◌-◌, ◌<◌, ◌≤◌, ◌∙◌, get_or, set, length, pos}
-use Rattle.std.proofs.Common.{arith, inl, inr, sym, subst, slice_index, SFits, w64, to_z-of_z, rules}
+-- From the last key down: the slacks from place `i` on are the least.
+use Rattle.std.proofs.Common.{◌≡◌, ◌≢◌, ℕ, ℤ, List, ◌+◌, ◌-◌, ◌<◌, ◌≤◌, ◌∙◌, get_or, set, length}
+use Rattle.std.proofs.Common.{pos}
+use Rattle.std.proofs.Common.{arith, inl, inr, sym, subst, slice_index, SFits, w64, to_z-of_z}
+use Rattle.std.proofs.Common.{rules}
 use Rattle.std.proofs.lemmas.List.{get_or_default, get_or-set_same, get_or-set_other}
 use Rattle.std.proofs.lemmas.Bool.{cases_lt}
 use Rattle.mill_model.specs.Prices.{least_slack}

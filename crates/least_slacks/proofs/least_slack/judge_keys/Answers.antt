@@ -1,3 +1,4 @@
+-- The prices are valid where the least slack of an empty slab is not below 0.
 use Rattle.std.proofs.Common.{◌≡◌, ℕ, zero, suc, [], ◌≤◌, ◌∙◌, true, false}
 use Rattle.std.proofs.Common.{replicate, ap, sym, refl, arith, ne_eqb, eqb, ℤ, pos}
 use Rattle.std.proofs.Common.{int_le, int_lt, SFits, w64, to_z-of_z, rules, slice_index}

@@ -1,8 +1,8 @@
-use Rattle.std.proofs.Common.{length, map, arith, rules, inl, inr, pos}
+use Rattle.std.proofs.Common.{◌≡◌, length, arith, rules, inl, inr, pos}
 use Rattle.std.proofs.lemmas.Int.{ints}
 use Rattle.std.proofs.lemmas.Bool.{cases_lt}
-use Rattle.std.proofs.lemmas.List.{get_or_past, length-map}
-use Rattle.list_laws.proofs.Different.{different-length}
+use Rattle.std.proofs.lemmas.List.{get_or_past}
+use Rattle.least_slacks.proofs.ColoursCounted.{colours-of-orders}
 use Rattle.set_minima.specs.Packs.{nobody}
 use Rattle.least_slacks.proofs.least_slack.least_slacks.Goals as goal
 
@@ -19,7 +19,8 @@ judge_keys-requires-clause-later c = record {
   sorted = search rules;
   weighs = search rules;
   coloured =
-      let a = different-length (map (λ order. order.colour) c.args.rest.now) in
-      let b = length-map c.args.rest.now (λ order. order.colour) in
+      let a = colours-of-orders c.args.rest.now c.in_ok-items.items.items c.in_ok-items.ensures in
+      let items : c.deref-2.result.now ≡ c.in_ok-items.items.items = search rules in
+      let b = rw items at c.run_count.ensures in
       omega (arith, a, b);
 }

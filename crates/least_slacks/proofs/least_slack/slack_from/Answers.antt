@@ -1,3 +1,5 @@
+-- The greatest gain over the front of a table, turned, is the least slack: the front holds every
+-- set that fits beside the group.
 use Rattle.std.proofs.Common.{◌≡◌, ◌≤◌, ◌∙◌, length, take, pos, inl, inr}
 use Rattle.std.proofs.Common.{arith, subst, sym, slice_index}
 use Rattle.std.proofs.lemmas.Bool.{cases_lt}

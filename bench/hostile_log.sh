@@ -11,14 +11,17 @@
 #   heavy     one record behind 512 heavy orders in groups of their own, which leave little room:
 #             512 light orders of other colours are to come
 #   own       one record behind 512 orders of more than half a slab, each with a colour of its own
-#             that comes again: no two groups share a table. Groups that leave nearly a whole slab
-#             would cost twice as much, but there each sibling on the way needs a record, too.
+#             that comes again: no two groups share a table
+#   pairs     the same behind 341 orders, with two orders to come for each colour
+#   near N    behind N orders that leave nearly a whole slab, each with a colour of its own that
+#             comes again: a table costs twice as much as under own, but each sibling on the way
+#             needs a record, too
 . "$(dirname "$0")/workspace.sh"
 
 product
 cd "$scratch"
 
-# The instance and the answer of a case: chain and light take a depth.
+# The instance and the answer of a case: chain, light and near take a depth.
 write_case() {
     awk -v name="$1" -v depth="${2:-0}" '
     function order(w, colour) { weight[++n] = w; orders = orders w " " colour "\n"; used[w] = 1 }
@@ -27,7 +30,14 @@ write_case() {
     BEGIN {
         if (name == "chain" || name == "light")
             for (i = 1; i <= 100; i++) order(name == "chain" ? 210 : 1, i);
-        else {
+        else if (name == "near") {
+            for (i = 1; i <= depth; i++) order(1000 - i, i);
+            for (i = 1; i <= 1024 - depth; i++) order(40, i);
+        } else if (name == "pairs") {
+            depth = 341;
+            for (i = 1; i <= 341; i++) order(10513 - i, i);
+            for (w = 41; w >= 40; w--) for (i = 1; i <= 341; i++) order(w, i);
+        } else {
             depth = 512;
             for (i = 1; i <= 512; i++) order((name == "heavy" ? 19001 : 10513) - i, i);
             for (i = 1; i <= 512; i++) order(name == "heavy" ? 3 : 40, name == "heavy" ? 600 + i : i);
@@ -64,3 +74,5 @@ row 8 light 38
 row 2 heavy
 row 2 own
 row 8 own
+row 8 pairs
+row 8 near 4

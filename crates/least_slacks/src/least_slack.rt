@@ -90,8 +90,8 @@ fn fill_layers(
 }
 
 /// What the tables stand for: so many layers of a width, of the orders that have none of the
-/// colours `out`, and one table up to `reach`, of all orders for the slabs that have these among so many
-/// colours.
+/// colours `out`, and one table up to `reach`, of all orders for the slabs that have these among
+/// so many colours.
 #[derive(Clone, Copy)]
 pub(crate) struct Made {
     out: [u16; 8],

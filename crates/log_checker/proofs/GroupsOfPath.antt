@@ -14,6 +14,7 @@ use Rattle.mill_model.specs.declared.order.Order.{Order}
 use Rattle.mill_model.proofs.Slabs.{slab-unused, load-append}
 use Rattle.list_laws.proofs.Tests.{either}
 use Rattle.list_laws.proofs.Different.{holds-append, different-push}
+use Rattle.mill_model.specs.declared.order.TheConstants.{MAX_ORDERS}
 use Rattle.log_checker.specs.Groups.{Seen, joined, may_be, IsSeen, nothing_seen, AreGroups}
 
 colours-push : (orders : List Order) (o : Order) →
@@ -174,7 +175,7 @@ below-or-not g n = grind arith
 
 -- all groups of a path, and the numbers that none has
 pub groups-all : (groups : List Seen) (path : List ℕ) (ranked : List Order) (i : ℕ) →
-    GroupsTo groups path ranked i → length path ≤ i → i ≤ 1024 → AreGroups groups path ranked
+    GroupsTo groups path ranked i → length path ≤ i → i ≤ MAX_ORDERS → AreGroups groups path ranked
 groups-all groups path ranked i it l b = record {
   count = it.count;
   seen = λ g. elim (below-or-not g (next_new path)) [
@@ -188,7 +189,7 @@ groups-all groups path ranked i it l b = record {
   light = λ g. elim (below-or-not g (next_new path)) [
     | inl h ↦ (let a : (get_or groups g nothing_seen).load ≤ i * 1000000 =
         it.light g h in omega arith)
-    | inr h ↦ (let z : 0 ≤ 1024 * 1000000 = omega arith in
+    | inr h ↦ (let z : 0 ≤ MAX_ORDERS * 1000000 = omega arith in
         rw (get_or_past groups g nothing_seen (rw it.count h)) z)
   ];
 }

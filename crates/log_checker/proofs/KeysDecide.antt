@@ -76,7 +76,8 @@ key-same rest a b x y low s t =
     ap₂ (λ u v. u && v)
     (ap₂ (λ u v. u && v) (ap₂ (λ m n. eqb m n) (sym s.weighs) (sym t.weighs))
     (ap₂ (λ m n. eqb m n) (sym s.counts) (sym t.counts)))
-    (equal-tests (same_marks (marks rest a) (marks rest b)) (same_list x.coming y.coming) there back)
+    (equal-tests (same_marks (marks rest a) (marks rest b)) (same_list x.coming y.coming) there
+    back)
   where
     there : same_marks (marks rest a) (marks rest b) ≡ true → same_list x.coming y.coming ≡ true
     there h =

@@ -15,7 +15,8 @@ use Rattle.list_laws.proofs.Tests.{and-left, and-right, either}
 use Rattle.list_laws.proofs.Among.{Among, all-among, Among-append_right, Among-unappend}
 use Rattle.refute_log.specs.Rising.{comes_before, rises}
 use Rattle.refute_log.proofs.Order.{before-trans, before-differs, before-total, before-child}
-use Rattle.log_checker.proofs.PathsPart.{parts-before, parts-longer, AllPart, AllPart-append, child-in}
+use Rattle.log_checker.proofs.PathsPart.{parts-before, parts-longer, AllPart, AllPart-append}
+use Rattle.log_checker.proofs.PathsPart.{child-in}
 use Rattle.log_checker.proofs.PathsPart.{children-part}
 use Rattle.log_checker.specs.Verdict.{holds_up, verdict_from, IsVerdict}
 use Rattle.log_checker.proofs.Counted.{records_at, wants_of, each_holds_up, IsRight, RightBefore}

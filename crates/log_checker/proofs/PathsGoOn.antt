@@ -1,5 +1,6 @@
 -- Classes and last numbers by place.
-use Rattle.std.proofs.Common.{lt-ltb, ltb, take, drop, max, sym, ap, ◌∙◌, ℕ, zero, suc, ◌+◌, ◌-◌, ◌<◌, ◌≤◌, ◌≡◌}
+use Rattle.std.proofs.Common.{lt-ltb, ltb, take, drop, max, sym, ap, ◌∙◌, ℕ, zero, suc, ◌+◌, ◌-◌}
+use Rattle.std.proofs.Common.{◌<◌, ◌≤◌, ◌≡◌}
 use Rattle.std.proofs.Common.{true, not, List, [], ◌∷◌, ◌++◌, length, get_or, refl, arith}
 use Rattle.std.proofs.Common.{leb, le-leb, ◌&&◌, ◌||◌}
 use Rattle.mill_model.specs.Slab.{Mill, legal}

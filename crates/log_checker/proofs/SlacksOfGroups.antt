@@ -1,6 +1,5 @@
--- The slacks of the groups of a path: one for the live groups of one key, and what a load is
--- charged
--- for the others.
+-- The slacks of the groups of a path: one for the live groups of one key, and for each
+-- other group what its load is charged.
 use Rattle.std.proofs.Common.{ℕ, zero, suc, ◌+◌, ◌*◌, ◌<◌, ◌≤◌, ◌≡◌, ◌⊎◌, Bool, true, false, List}
 use Rattle.std.proofs.Common.{[], ◌∷◌, map, drop, length, get_or, set, eqb, eq-eqb, eqb-true, refl}
 use Rattle.std.proofs.Common.{sym, ap, ◌∙◌, subst, arith, inl, inr, All, ℤ, pos, slice_index, ◌+ℤ◌}

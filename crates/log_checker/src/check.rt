@@ -1,3 +1,5 @@
+// One pass over a log, with the paths that are still to come.
+
 ghost use Rattle.std.specs.Prelude.{◌≡◌, ◌<◌, ◌≤◌, ◌+◌, ◌↔◌, ℕ, [], ◌∷◌, ◌++◌, drop, length, IfOk};
 ghost use Rattle.std.specs.Prelude.{OnOk, IfSome, IfNone, true, false, List, cond};
 ghost use Rattle.std.specs.List.{list_all};

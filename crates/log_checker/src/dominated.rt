@@ -1,3 +1,5 @@
+// Whether the path that a dominated record names is in the tree and settled.
+
 ghost use Rattle.std.specs.Prelude.{◌≡◌, ◌<◌, ◌≤◌, ◌^◌, ◌*◌, ◌+◌, ◌&&◌, ◌||◌, IfOk, true, [], take};
 ghost use Rattle.std.specs.Prelude.{length, replicate, slice_index, slice_index_or};
 ghost use Rattle.mill_model.specs.Log.{recorded, is_settled, is_dominated};

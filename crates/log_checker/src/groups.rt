@@ -1,3 +1,5 @@
+// The groups of a path: what each weighs, and its colours.
+
 ghost use Rattle.std.specs.Prelude.{◌≡◌, ◌<◌, ◌≤◌, ◌^◌, ◌+◌, ◌*◌, ℕ, [], OnOk, IfOk, length};
 ghost use Rattle.std.specs.Prelude.{replicate, slice_index_or, slice_set};
 ghost use Rattle.mill_model.specs.Tree.{next_new};

@@ -1,3 +1,5 @@
+// The live groups of a path by their keys, and whether two paths have the same.
+
 ghost use Rattle.std.specs.Prelude.{◌≡◌, ◌<◌, ◌≤◌, ◌+◌, ◌*◌, ℕ, List, IfOk, OnOk, drop, length};
 ghost use Rattle.std.specs.Prelude.{true, slice_index_or, slice_set, IfSome, IfNone, false};
 ghost use Rattle.std.specs.List.Sorted.{IsPermutation, IsSortedByKey};
@@ -106,7 +108,8 @@ fn live_groups(
     k: usize,
 ) -> Result<Vec<LiveGroup>, OutOfMemory>
     requires rank { k ≤ length rules.now.ranked.items }
-    requires light { (g : ℕ) → (slice_index_or groups.now g nothing_seen).load ≤ MAX_ORDERS * 1000000 }
+    requires light { (g : ℕ) →
+        (slice_index_or groups.now g nothing_seen).load ≤ MAX_ORDERS * 1000000 }
     requires once { (g : ℕ) → length (slice_index_or groups.now g nothing_seen).colours
         ≡ different (slice_index_or groups.now g nothing_seen).colours }
     ensures { IfOk result (λ live.
@@ -152,7 +155,8 @@ pub(crate) fn sorted_live(
     k: usize,
 ) -> Result<Vec<LiveGroup>, OutOfMemory>
     requires rank { k ≤ length rules.now.ranked.items }
-    requires light { (g : ℕ) → (slice_index_or groups.now g nothing_seen).load ≤ MAX_ORDERS * 1000000 }
+    requires light { (g : ℕ) →
+        (slice_index_or groups.now g nothing_seen).load ≤ MAX_ORDERS * 1000000 }
     requires once { (g : ℕ) → length (slice_index_or groups.now g nothing_seen).colours
         ≡ different (slice_index_or groups.now g nothing_seen).colours }
     ensures { IfOk result (λ live. AreSorted (mill_by rules.now) (drop k rules.now.ranked.items)

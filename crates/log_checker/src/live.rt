@@ -1,3 +1,5 @@
+// Whether a later order may join a group, and what the groups that none may join are charged.
+
 ghost use Rattle.std.specs.Prelude.{◌≡◌, ◌≤◌, ◌*◌, ◌+◌, ℕ, cond, drop, length, slice_index};
 ghost use Rattle.std.specs.Prelude.{slice_index_or};
 ghost use Rattle.std.specs.List.{list_any};
@@ -54,7 +56,8 @@ pub(crate) fn is_live(group: &Group, rules: &Rules, k: usize) -> bool
 /// What the groups that aren't live are charged.
 pub(crate) fn dead_charge(groups: &[Group], rules: &Rules, k: usize) -> u64
     requires few { length groups.now ≤ 65536 }
-    requires light { (g : ℕ) → (slice_index_or groups.now g nothing_seen).load ≤ MAX_ORDERS * 1000000 }
+    requires light { (g : ℕ) →
+        (slice_index_or groups.now g nothing_seen).load ≤ MAX_ORDERS * 1000000 }
     ensures { result ≡ total (length groups.now) (λ g. cond (lives (mill_by rules.now) (drop k
         rules.now.ranked.items) (slice_index_or groups.now g nothing_seen)) 0 (slice_index
         rules.now.charges.items (slice_index_or groups.now g nothing_seen).load)) }

@@ -1,7 +1,8 @@
 // Records by prices.
 
 ghost use Rattle.std.specs.Prelude.{◌≡◌, ◌<◌, ◌≤◌, ◌+◌, ◌*◌, ℕ, IfOk, All, true, drop, length, map};
-ghost use Rattle.std.specs.Prelude.{slice_index, slice_index_or, slice_set, ◌-ℤ◌, ◌*ℤ◌, pos, int_lt};
+ghost use Rattle.std.specs.Prelude.{slice_index, slice_index_or, slice_set, ◌-ℤ◌, ◌*ℤ◌, pos};
+ghost use Rattle.std.specs.Prelude.{int_lt};
 ghost use Rattle.list_laws.specs.Sets.{int_sum};
 ghost use Rattle.mill_model.specs.Limits.{IsPrice};
 ghost use Rattle.mill_model.specs.Log.{sound};

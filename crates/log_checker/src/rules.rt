@@ -1,3 +1,5 @@
+// The rules that records are judged by: the mill, the orders in rank and the charges.
+
 ghost use Rattle.std.specs.Prelude.{◌≡◌, ◌<◌, ◌≤◌, ◌+◌, true, length, slice_index, slice_index_or};
 ghost use Rattle.std.specs.Prelude.{drop, eqb, IfSome, IfNone, []};
 ghost use Rattle.mill_model.specs.LiveKey.{has_colour};

@@ -1,3 +1,5 @@
+// What an instance says to the checker, once for all records.
+
 ghost use Rattle.std.specs.Prelude.{◌≡◌, ◌<◌, ◌≤◌, ◌+◌, ℕ, All, length, slice_index, IfOk};
 ghost use Rattle.std.specs.Prelude.{slice_index_or};
 ghost use Rattle.mill_model.specs.Instance.{IsOrder};
@@ -73,7 +75,8 @@ pub(crate) fn rules_of(
     charges: &Charges,
 ) -> Result<Rules, OutOfMemory>
     requires reach { Reaches charges.now (mill_of instance.now) }
-    ensures is { IfOk result (λ rules. task_by rules ≡ task_of instance.now (charge_of charges.now)) }
+    ensures is { IfOk result (λ rules.
+        task_by rules ≡ task_of instance.now (charge_of charges.now)) }
     ensures count { IfOk result (λ rules.
         length rules.ranked.items ≡ length instance.now.orders) }
 {

@@ -1,3 +1,5 @@
+// Whether one record is sound.
+
 ghost use Rattle.std.specs.Prelude.{◌≡◌, ◌<◌, ◌≤◌, ◌&&◌, leb, length, slice_index, slice_index_or};
 ghost use Rattle.std.specs.Prelude.{IfOk, true};
 ghost use Rattle.list_laws.specs.Sets.{total};

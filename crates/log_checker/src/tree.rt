@@ -1,3 +1,5 @@
+// The children of a path.
+
 ghost use Rattle.std.specs.Prelude.{◌≡◌, ◌<◌, ◌≤◌, ◌^◌, ◌*◌, ◌+◌, ◌&&◌, ◌||◌, [], ◌∷◌, ◌++◌, OnOk};
 ghost use Rattle.std.specs.Prelude.{length, cond, slice_index_or};
 ghost use Rattle.mill_model.specs.Rank.{starts_class_in, same_order};

@@ -1,3 +1,4 @@
+-- The verdict by the rules is one of the instance, and a log has one verdict.
 use Rattle.std.proofs.Common.{◌≡◌, ◌∙◌, length, sym}
 use Rattle.mill_model.specs.Instance.{mill_of}
 use Rattle.mill_model.specs.Log.{task_of}

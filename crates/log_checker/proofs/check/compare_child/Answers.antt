@@ -11,7 +11,8 @@ returns c =
     let parent = c.args.parent.now in
     let path = c.args.path.now in
     let n = c.min.result in
-    let end : (n ≡ length parent) ⊎ (n ≡ length path) = elim (cases_lt (length path) (length parent)) [
+    let end : (n ≡ length parent) ⊎ (n ≡ length path) =
+    elim (cases_lt (length path) (length parent)) [
       | inl l ↦ inr (omega (arith, c.min.ensures))
       | inr l ↦ inl (omega (arith, c.min.ensures))
     ] in

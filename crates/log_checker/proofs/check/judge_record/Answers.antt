@@ -1,3 +1,4 @@
+-- The record stands at the wanted path; then it fails, or what it leaves open comes next.
 use Rattle.std.proofs.Common.{◌≡◌, ◌++◌, ◌∷◌, [], ◌∙◌, ap, sym, refl, rules, true, false}
 use Rattle.list_laws.specs.Sets.{same_list}
 use Rattle.list_laws.proofs.Times.{same_list-eq}

@@ -1,4 +1,5 @@
-use Rattle.std.proofs.Common.{◌≡◌, ◌&&◌, Bool, true, take, arith, get_or, length, refl, leb, ltb, false}
+use Rattle.std.proofs.Common.{◌≡◌, ◌&&◌, Bool, true, take, arith, get_or, length, refl, leb, ltb}
+use Rattle.std.proofs.Common.{false}
 use Rattle.std.proofs.lemmas.Bool.{lt-leb}
 use Rattle.mill_model.specs.Tree.{next_new}
 use Rattle.log_checker.proofs.dominated.goes_on_at.Goals as goal

@@ -1,3 +1,5 @@
+-- A search by halves: all records before `low` come before the path, and all from `high` on after
+-- it.
 use Rattle.std.proofs.Common.{◌≡◌, ◌<◌, ◌+◌, ◌-◌, ◌/◌, length, sym, arith, rules, true}
 use Rattle.list_laws.specs.Sets.{same_list}
 use Rattle.refute_log.specs.Rising.{path_order}

@@ -1,3 +1,4 @@
+-- Group by group: each has what its load is charged, which is a small number.
 use Rattle.std.proofs.Common.{◌≡◌, ◌+◌, ◌*◌, ◌∙◌, ◌++◌, ◌∷◌, [], ℤ, pos, length}
 use Rattle.std.proofs.Common.{length-append, All, slice_index, get_or, subst}
 use Rattle.std.proofs.Common.{ap, sym, arith, inl, inr, to_z, w64}

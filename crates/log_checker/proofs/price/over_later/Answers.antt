@@ -1,5 +1,8 @@
+-- The slacks of all groups and the prices add up to what the prices are worth, and no sum
+-- overflows.
 use Rattle.std.proofs.Common.{ℕ, ℤ, ◌≡◌, ◌+◌, ◌≤◌, ◌∙◌, ◌+ℤ◌, ◌-ℤ◌, ◌*ℤ◌, true, length, drop, pos}
-use Rattle.std.proofs.Common.{int_lt, eqb, eq-eqb, arith, ap, ap₂, sym, subst, SFits, w64, to_z-of_z}
+use Rattle.std.proofs.Common.{int_lt, eqb, eq-eqb, arith, ap, ap₂, sym, subst, SFits, w64}
+use Rattle.std.proofs.Common.{to_z-of_z}
 use Rattle.std.proofs.Common.{rules, slice_index, refl, get_or, All, List, map}
 use Rattle.std.proofs.lemmas.Int.{ints}
 use Rattle.mill_model.specs.Plan.{slab}

@@ -1,5 +1,8 @@
+-- What the load is charged stands for each group first; then each live group gets the least slack
+-- of its key.
 use Rattle.std.proofs.Common.{◌≡◌, ◌<◌, ◌∙◌, ℕ, ℤ, length, drop, get_or, pos, arith}
-use Rattle.std.proofs.Common.{ap, ap₂, sym, subst, refl, All, SFits, w64, to_z, of_z, to_z-of_z, rules}
+use Rattle.std.proofs.Common.{ap, ap₂, sym, subst, refl, All, SFits, w64, to_z, of_z, to_z-of_z}
+use Rattle.std.proofs.Common.{rules}
 use Rattle.std.proofs.Common.{set}
 use Rattle.std.proofs.lemmas.List.{get_or_default, length-drop, length-set}
 use Rattle.std.proofs.lemmas.List.Elements.{All-set}

@@ -1,3 +1,5 @@
+-- The groups of a path are known by what is seen of them, so that live keys and dead losses of the
+-- groups are those of the paths.
 use Rattle.std.proofs.Common.{◌≡◌, ◌≤◌, ◌∙◌, true, false, length, drop, arith}
 use Rattle.std.proofs.Common.{ℕ, slice_index, get_or, refl}
 use Rattle.mill_model.specs.Plan.{slab}

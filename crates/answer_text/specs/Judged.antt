@@ -1,6 +1,7 @@
 -- What is wrong with lines that are no answer's text. Lines are counted from 1.
 use Rattle.std.specs.Prelude.{ℕ, ◌+◌, ◌≡◌, ◌≤◌, ◌⊎◌, List, [], ◌∷◌, ◌++◌, map, length, take, None}
-use Rattle.std.specs.Prelude.{Result, Err}
+use Rattle.std.specs.Prelude.{Result}
+use Rattle.mill_model.specs.Exactly.{ComesExactly}
 use Rattle.line_text.specs.Words.{BeginsWith}
 use Rattle.refute_log.specs.Text.{first_line}
 use Rattle.refute_log.specs.Judged as in_log
@@ -86,7 +87,6 @@ IsRefused orders lines (NotRising number) = IsNotRising orders lines number
 IsRefused orders lines (CountDiffers stated found) = CountIsOther orders lines stated found
 IsRefused orders lines OutOfMemory = Unit {0}
 
--- an answer of the reader comes exactly where a fact holds, but for want of memory
-pub record ComesWhere (result answer : Result Answer AnswerTextError) (fact : Type 0) : Type 0 where
-  pub only : result ≡ answer → fact
-  pub always : fact → (result ≡ answer) ⊎ (result ≡ Err OutOfMemory)
+-- an answer comes exactly where a fact holds, but for want of memory
+abbrev pub ComesWhere : Result Answer AnswerTextError → Result Answer AnswerTextError → Type 0 → Type 0
+ComesWhere result answer fact = ComesExactly OutOfMemory result answer fact

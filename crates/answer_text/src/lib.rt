@@ -9,8 +9,6 @@ mod print;
 mod read;
 #[cfg(test)]
 mod tests;
-#[cfg(test)]
-mod tests_log;
 
 pub use answer::Answer;
 pub use error::AnswerTextError;

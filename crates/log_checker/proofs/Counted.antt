@@ -2,13 +2,13 @@
 use Rattle.std.proofs.Common.{ℕ, zero, suc, ◌+◌, ◌<◌, ◌≡◌, Bool, true, false, not, ◌&&◌, ◌||◌, List}
 use Rattle.std.proofs.Common.{[], ◌∷◌, refl, arith, inl, inr}
 use Rattle.std.specs.List.{list_any}
-use Rattle.mill_model.specs.Sets.{same_list, times}
+use Rattle.list_laws.specs.Sets.{same_list, times}
 use Rattle.mill_model.specs.Log.{Task, recorded, split_children, Refutes}
 use Rattle.mill_model.specs.declared.closing.Entry.{Entry}
-use Rattle.mill_model.proofs.Different.{either}
+use Rattle.list_laws.proofs.Tests.{either}
 use Rattle.refute_log.specs.Rising.{comes_before}
-use Rattle.log_checker.specs.Verdict.{is_recorded, is_wanted, holds_up, fails_at}
-use Rattle.log_checker.specs.Verdict.{is_wrong, IsVerdict}
+use Rattle.log_checker.specs.Verdict.{is_recorded, is_wanted, holds_up, fails_at, is_wrong}
+use Rattle.log_checker.specs.Verdict.{IsVerdict}
 use Rattle.log_checker.specs.declared.verdict.LogVerdict.{LogVerdict}
 use Rattle.log_checker.specs.declared.verdict.LogVerdict.TheVariants as verdicts
 

@@ -1,28 +1,22 @@
 -- The lightest orders from a rank on, and whether a group may take an order.
-use Rattle.std.proofs.Common.{ℕ, zero, suc, ◌+◌, ◌-◌, ◌<◌, ◌≤◌, ◌≡◌, Bool, true, false, cond}
-use Rattle.std.proofs.Common.{◌&&◌, ◌||◌}
-use Rattle.std.proofs.Common.{List, [], ◌∷◌, ◌++◌, length, drop, get_or, eqb, ltb, leb, refl, sym}
-use Rattle.std.proofs.Common.{ap}
-use Rattle.std.proofs.Common.{◌∙◌, subst, arith, inl, inr, eqb-true, eq-eqb, ltb-true, lt-ltb}
-use Rattle.std.proofs.Common.{le-ltb}
-use Rattle.std.proofs.Common.{leb-true, le-leb, length-append}
+use Rattle.std.proofs.Common.{ℕ, zero, suc, ◌+◌, ◌-◌, ◌<◌, ◌≤◌, ◌≡◌, Bool, true, false, cond, ◌&&◌}
+use Rattle.std.proofs.Common.{◌||◌, List, [], ◌∷◌, ◌++◌, length, drop, get_or, eqb, ltb, leb, refl}
+use Rattle.std.proofs.Common.{sym, ap, ◌∙◌, subst, arith, inl, inr, eqb-true, eq-eqb, ltb-true}
+use Rattle.std.proofs.Common.{lt-ltb, le-ltb, leb-true, le-leb, length-append}
 use Rattle.std.specs.List.{list_any}
 use Rattle.std.proofs.lemmas.Bool.{cases_lt}
-use Rattle.std.proofs.lemmas.List.{drop_all, drop_more, get_or-drop, get_or_default}
-use Rattle.std.proofs.lemmas.List.{get_or_past, length-drop}
+use Rattle.std.proofs.lemmas.List.{drop_all, drop_more, get_or-drop, get_or_default, get_or_past}
+use Rattle.std.proofs.lemmas.List.{length-drop}
 use Rattle.std.proofs.lemmas.List.Folds.{list_any_at, list_any_none}
-use Rattle.mill_model.specs.Sets.{holds}
+use Rattle.list_laws.specs.Sets.{holds}
 use Rattle.mill_model.specs.Slab.{Mill}
 use Rattle.mill_model.specs.LiveKey.{has_colour}
 use Rattle.mill_model.specs.declared.order.Order.{Order}
-use Rattle.mill_model.proofs.Different.{either, or-right, or-cases}
-use Rattle.mill_laws.proofs.Lists.{Among, and-left, and-right, any-among, any-from}
+use Rattle.list_laws.proofs.Tests.{either, or-right, or-cases, and-left, and-right, clash}
+use Rattle.list_laws.proofs.Among.{Among, any-among, any-from}
 use Rattle.log_checker.specs.Groups.{Seen, joined, may_be, no_order, with_colour}
 use Rattle.log_checker.specs.Setting.{AreEnds}
 use Rattle.log_checker.specs.Live.{IsLightest, AreNone, lives, takes_of}
-
-clash : (b : Bool) → b ≡ true → b ≡ false → ⊥
-clash b t f = cc
 
 abbrev Falls : List Order → Type 0
 Falls ranked =

@@ -3,17 +3,15 @@ use Rattle.std.proofs.Common.{ℕ, zero, suc, ◌+◌, ◌<◌, ◌≤◌, ◌�
 use Rattle.std.proofs.Common.{List, [], ◌∷◌, length, get_or, refl, sym, ap, ◌∙◌, subst, arith, inl}
 use Rattle.std.proofs.Common.{inr}
 use Rattle.std.specs.List.{list_all}
-use Rattle.mill_model.specs.Sets.{same_list}
+use Rattle.list_laws.specs.Sets.{same_list}
 use Rattle.mill_model.specs.Log.{recorded, is_settled, is_dominated}
+use Rattle.mill_model.proofs.Records.{recorded-length}
 use Rattle.mill_model.specs.declared.closing.Entry.{Entry}
-use Rattle.mill_laws.proofs.Law.{same_list-refl, same_list-eq}
-use Rattle.mill_laws.proofs.Lists.{and-left, and-right, Among, all-among}
+use Rattle.list_laws.proofs.Times.{same_list-refl, same_list-eq}
+use Rattle.list_laws.proofs.Tests.{and-left, and-right}
+use Rattle.list_laws.proofs.Among.{Among, all-among}
 use Rattle.refute_log.specs.Rising.{comes_before, rises}
 use Rattle.refute_log.proofs.Order.{before-trans, before-differs, after-differs}
-
-recorded-length : (log : List Entry) → length (recorded log) ≡ length log
-recorded-length [] = refl
-recorded-length (e ∷ log) = ap suc (recorded-length log)
 
 among-at : (ps : List (List ℕ)) (i : ℕ) → i < length ps → Among (get_or ps i []) ps
 among-at [] i h = absurd (omega arith)

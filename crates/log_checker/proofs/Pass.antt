@@ -3,20 +3,21 @@ use Rattle.std.proofs.Common.{ℕ, suc, ◌+◌, ◌<◌, ◌≡◌, ◌⊎◌, 
 use Rattle.std.proofs.Common.{List, [], ◌∷◌, ◌++◌, refl, sym, ap, ◌∙◌, subst, arith, inl, inr}
 use Rattle.std.proofs.Common.{append_assoc}
 use Rattle.std.specs.List.{list_all, AllByRecursion}
-use Rattle.mill_model.specs.Sets.{same_list, times, below}
+use Rattle.list_laws.specs.Sets.{same_list, times, below}
 use Rattle.mill_model.specs.Tree.{next_new, may_go_on}
 use Rattle.mill_model.specs.Log.{Task, sound, recorded, left_open, split_children, names_settled}
+use Rattle.mill_model.proofs.Records.{recorded-append, split-append}
 use Rattle.mill_model.specs.declared.closing.Entry.{Entry}
 use Rattle.mill_model.specs.declared.closing.Closing.{Closing}
 use Rattle.mill_model.specs.declared.closing.Closing.TheVariants.{Split, Leaf, Priced, Dominated}
-use Rattle.mill_laws.proofs.Law.{same_list-refl, same_list-eq}
-use Rattle.mill_laws.proofs.Lists.{and-left, and-right, Among, all-among, Among-append_right}
-use Rattle.mill_laws.proofs.Lists.{times-append, times-pos}
-use Rattle.mill_model.proofs.Different.{either}
+use Rattle.list_laws.proofs.Times.{same_list-refl, same_list-eq, times-append, times-pos}
+use Rattle.list_laws.proofs.Tests.{and-left, and-right, either}
+use Rattle.list_laws.proofs.Among.{Among, all-among, Among-append_right, Among-unappend}
 use Rattle.refute_log.specs.Rising.{comes_before, rises}
 use Rattle.refute_log.proofs.Order.{before-trans, before-differs, before-total, before-child}
-use Rattle.log_checker.proofs.Parts.{parts-before, parts-longer, AllPart, AllPart-append, child-in}
-use Rattle.log_checker.proofs.Parts.{children-part}
+use Rattle.log_checker.proofs.PathsPart.{parts-before, parts-longer, AllPart, AllPart-append}
+use Rattle.log_checker.proofs.PathsPart.{child-in}
+use Rattle.log_checker.proofs.PathsPart.{children-part}
 use Rattle.log_checker.specs.Verdict.{holds_up, verdict_from, IsVerdict}
 use Rattle.log_checker.proofs.Counted.{records_at, wants_of, each_holds_up, IsRight, RightBefore}
 use Rattle.log_checker.proofs.Counted.{IsMissing, IsStray, IsUnsound, IsFound, found-is}
@@ -31,18 +32,6 @@ pub record IsAt (task : Task) (bound : ℕ) (log done : List Entry) (paths : Lis
   pub part : AllPart paths
   pub behind : (e : Entry) (p : List ℕ) → Among e done → Among p paths →
       comes_before e.path p ≡ true
-
-recorded-append : (xs ys : List Entry) → recorded (xs ++ ys) ≡ recorded xs ++ recorded ys
-recorded-append [] ys = refl
-recorded-append (x ∷ xs) ys = ap (λ l. x.path ∷ l) (recorded-append xs ys)
-
-split-append : (task : Task) (xs ys : List Entry) →
-    split_children task (xs ++ ys) ≡ split_children task xs ++ split_children task ys
-split-append task [] ys = refl
-split-append task (x ∷ xs) ys =
-    ap (λ l. left_open task x.path x.closing ++ l) (split-append task xs ys)
-    ∙ sym (append_assoc (left_open task x.path x.closing) (split_children task xs)
-    (split_children task ys))
 
 -- counts over what is done and the rest
 records-apart : (xs ys : List Entry) (p : List ℕ) →
@@ -152,12 +141,6 @@ refused-one task bound log e (f ∷ es) (inr m) h =
     and-false true = refl
     and-false false = refl
 
-among-append : {X : Type 0} (x : X) (xs ys : List X) → Among x (xs ++ ys) → Among x xs ⊎ Among x ys
-among-append x [] ys m = inr m
-among-append x (z ∷ xs) ys (inl e) = inl (inl e)
-among-append x (z ∷ xs) ys (inr m) =
-    elim (among-append x xs ys m) [ inl k ↦ inl (inr k) | inr k ↦ inr k ]
-
 -- in a rising log what is done comes before the rest
 rises-tail : (done : List Entry) (e : Entry) (rest : List Entry) →
     rises (recorded (done ++ e ∷ rest)) ≡ true → (f : Entry) → Among f rest →
@@ -214,7 +197,7 @@ module _ (task : Task) (bound : ℕ) (log done : List Entry) (paths : List (List
         omega arith;
     upheld =
         upheld-all task bound log q log (λ e m. place e
-        (among-append e done rest (subst (λ l. Among e l) it.whole m)));
+        (Among-unappend e done rest (subst (λ l. Among e l) it.whole m)));
   }
     where
       place : (e : Entry) → Among e done ⊎ Among e rest → (same_list q e.path ≡ false)
@@ -276,14 +259,14 @@ step task bound log done path paths e rest up it q h = record {
       (times same_list p (left_open task e.path e.closing
       ++ paths)) (times same_list p paths) a a2 b c d2;
   upheld =
-      λ f m. elim (among-append f done (e ∷ []) m) [
+      λ f m. elim (Among-unappend f done (e ∷ []) m) [
         | inl k ↦ it.upheld f k
         | inr k ↦ (elim k [ inl s ↦ rw s h | inr s ↦ absurd s ])
       ];
   part = AllPart-append (left_open task e.path e.closing) paths (open-part task e.path e.closing)
       it.part.1 (λ a b x y. let r = open-in task e.path a e.closing x in
       rw r.1 (parts-longer e.path b (r.0 ∷ []) (rw (← q) (it.part.0 b y))));
-  behind = λ f p m n. elim (among-append p (left_open task e.path e.closing) paths n) [
+  behind = λ f p m n. elim (Among-unappend p (left_open task e.path e.closing) paths n) [
     | inl k ↦ (let r = open-in task e.path p e.closing k in let c : comes_before e.path p ≡ true =
         rw r.1 (before-child e.path r.0) in upto f p c m)
     | inr k ↦ (let c : comes_before e.path p ≡ true = rw (← q)
@@ -297,7 +280,7 @@ step task bound log done path paths e rest up it q h = record {
 
     upto : (f : Entry) (p : List ℕ) → comes_before e.path p ≡ true → Among f (done ++ e ∷ []) →
         comes_before f.path p ≡ true
-    upto f p c m = elim (among-append f done (e ∷ []) m) [
+    upto f p c m = elim (Among-unappend f done (e ∷ []) m) [
       | inl k ↦ before-trans f.path e.path p (rises-done done e rest (subst (λ l.
           rises (recorded l) ≡ true) it.whole up) f k) c
       | inr k ↦ (elim k [
@@ -314,7 +297,7 @@ all-by P (e ∷ es) h = (h e (inl refl), all-by P es (λ f m. h f (inr m)))
 all-done : (task : Task) (bound : ℕ) (log done : List Entry) (paths : List (List ℕ)) →
     IsAt task bound log done paths [] → (e : Entry) → Among e log → holds_up task bound log e ≡ true
 all-done task bound log done paths it e m =
-    elim (among-append e done [] (subst (λ l. Among e l) it.whole m)) [
+    elim (Among-unappend e done [] (subst (λ l. Among e l) it.whole m)) [
       | inl k ↦ it.upheld e k
       | inr k ↦ absurd k
     ]

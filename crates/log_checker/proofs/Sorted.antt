@@ -1,14 +1,13 @@
 -- Lists in one order that have each thing as often are one.
-use Rattle.std.proofs.Common.{ℕ, suc, ◌+◌, ◌<◌, ◌≤◌, ◌≡◌, ◌⊎◌, Bool, true, false, cond, List}
-use Rattle.std.proofs.Common.{[]}
+use Rattle.std.proofs.Common.{ℕ, suc, ◌+◌, ◌<◌, ◌≤◌, ◌≡◌, ◌⊎◌, Bool, true, false, cond, List, []}
 use Rattle.std.proofs.Common.{◌∷◌, length, get_or, refl, sym, ap, ap₂, ◌∙◌, subst, arith, inl, inr}
 use Rattle.std.specs.List.{sum_by}
 use Rattle.std.specs.List.Sorted.{IsPermutation}
 use Rattle.std.proofs.lemmas.List.Sorted.{sum_by-IsPermutation}
 use Rattle.std.proofs.lemmas.List.Sums.{sum_by-cons}
-use Rattle.mill_model.specs.Sets.{times}
-use Rattle.mill_model.proofs.Different.{either}
-use Rattle.mill_laws.proofs.Lists.{Among}
+use Rattle.list_laws.specs.Sets.{times}
+use Rattle.list_laws.proofs.Tests.{either}
+use Rattle.list_laws.proofs.Among.{Among}
 
 -- how often a thing stands in a list is kept by a permutation
 times-sum : {X : Type 0} (same : X → X → Bool) (o : X) (xs : List X) →

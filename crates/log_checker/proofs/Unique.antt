@@ -2,21 +2,18 @@
 use Rattle.std.proofs.Common.{ℕ, ◌≡◌, Bool, true, false, not, ◌&&◌, ◌||◌, List, [], ◌∷◌, refl, ap}
 use Rattle.std.proofs.Common.{subst, arith, inl, inr}
 use Rattle.std.specs.List.{list_any, AllByRecursion}
-use Rattle.mill_model.specs.Sets.{same_list}
+use Rattle.list_laws.specs.Sets.{same_list}
 use Rattle.mill_model.specs.Log.{Task, sound, names_settled, Refutes}
 use Rattle.mill_model.specs.declared.closing.Entry.{Entry}
-use Rattle.mill_laws.proofs.Law.{same_list-eq}
-use Rattle.mill_model.proofs.Different.{either}
+use Rattle.list_laws.proofs.Times.{same_list-eq}
+use Rattle.list_laws.proofs.Tests.{either, clash}
 use Rattle.refute_log.specs.Rising.{comes_before}
 use Rattle.refute_log.proofs.Order.{before-total}
-use Rattle.log_checker.specs.Verdict.{is_recorded, is_wanted, fails_at, is_missing}
-use Rattle.log_checker.specs.Verdict.{is_stray, is_unsound, is_wrong, IsFirst, IsVerdict}
+use Rattle.log_checker.specs.Verdict.{is_recorded, is_wanted, fails_at, is_missing, is_stray}
+use Rattle.log_checker.specs.Verdict.{is_unsound, is_wrong, IsFirst, IsVerdict}
 use Rattle.log_checker.specs.declared.verdict.LogVerdict.{LogVerdict}
 use Rattle.log_checker.specs.declared.verdict.LogVerdict.TheVariants as verdicts
 use Rattle.log_checker.proofs.Counted.{each_holds_up, right-not_wrong}
-
-clash : (b : Bool) → b ≡ true → b ≡ false → ⊥
-clash b t f = cc
 
 -- in a log that refutes a loss each record holds up
 upheld-where : (task : Task) (bound : ℕ) (log : List Entry) (p : List ℕ) (es : List Entry) →
@@ -143,7 +140,7 @@ module _ (task : Task) (bound : ℕ) (log : List Entry) where
       absurd (not-missing-unsound q p b a)
   verdict-unique (verdicts.Unsound p) (verdicts.Stray q) a b = absurd (not-stray-unsound q p b a)
 
--- a verdict on what a judge judges by is one on the instance, and the one that holds
+-- a verdict on what a rules judges by is one on the instance, and the one that holds
 module _ (own task : Task) (bound : ℕ) (read log : List Entry) (same : own ≡ task)
     (all : read ≡ log) (v : LogVerdict) (is : IsVerdict own bound read v) where
   verdict-moved : IsVerdict task bound log v

@@ -1,25 +1,24 @@
 -- Keys of live groups.
 use Rattle.std.specs.Prelude.{ℕ, ◌<◌, ◌≤◌, ◌≡◌, Bool, true, ◌&&◌, false, cond, eqb, List, [], ◌∷◌}
-use Rattle.std.specs.Prelude.{length, map, All}
-use Rattle.std.specs.Prelude.{slice_index, slice_index_or}
+use Rattle.std.specs.Prelude.{length, map, All, slice_index, slice_index_or}
 use Rattle.std.specs.List.Sorted.{IsPermutation, IsSortedByKey}
 use Rattle.std.specs.Cmp.Lexicographic.{slice_cmp}
 use Rattle.std.specs.Ordering.{nat_cmp, ordering_then}
 use Rattle.std.specs.declared.cmp.Ordering.{Ordering}
-use Rattle.mill_model.specs.Sets.{holds, times, same_list}
+use Rattle.list_laws.specs.Sets.{holds, times, same_list}
 use Rattle.mill_model.specs.Slab.{Mill}
 use Rattle.mill_model.specs.LiveKey.{has_colour}
 use Rattle.mill_model.specs.declared.order.Order.{Order}
 use Rattle.log_checker.specs.Groups.{Seen, nothing_seen}
 use Rattle.log_checker.specs.Live.{live_of}
-use Rattle.log_checker.specs.declared.key.Key.{Key}
-use Rattle.log_checker.specs.declared.key.LiveGroup.{LiveGroup}
+use Rattle.least_slacks.specs.declared.key.Key.{Key}
+use Rattle.log_checker.specs.declared.keys.LiveGroup.{LiveGroup}
 
--- keys by load, then number of colours, then the coming colours
+-- keys by the coming colours, then number of colours, then load
 abbrev pub key_order : Key → Key → Ordering
 key_order a b =
-    ordering_then (nat_cmp a.load b.load)
-    (ordering_then (nat_cmp a.colours b.colours) (slice_cmp nat_cmp a.coming b.coming))
+    ordering_then (slice_cmp nat_cmp a.coming b.coming)
+    (ordering_then (nat_cmp a.colours b.colours) (nat_cmp a.load b.load))
 
 abbrev pub key_in : LiveGroup → Key
 key_in live = live.key

@@ -1,10 +1,8 @@
 pub mod Setting
-pub mod Judged
+pub mod ByRules
 pub mod Groups
 pub mod Live
 pub mod Agenda
 pub mod Verdict
-pub mod Tables
 pub mod Keys
 pub mod Slacks
-pub mod Stocked

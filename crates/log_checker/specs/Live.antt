@@ -2,7 +2,7 @@
 use Rattle.std.specs.Prelude.{ℕ, ◌≡◌, ◌≤◌, Bool, true, false, ◌&&◌, List, map, filter, length, eqb}
 use Rattle.std.specs.Prelude.{get_or}
 use Rattle.std.specs.List.{All, Contains, list_any, list_all}
-use Rattle.mill_model.specs.Sets.{holds, below, times}
+use Rattle.list_laws.specs.Sets.{holds, below, times}
 use Rattle.mill_model.specs.Slab.{Mill}
 use Rattle.mill_model.specs.LiveKey.{same_marks}
 use Rattle.mill_model.specs.declared.order.Order.{Order}

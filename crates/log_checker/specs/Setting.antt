@@ -1,29 +1,20 @@
 -- What a log is judged by, from an instance and a table of charges.
 use Rattle.std.specs.Prelude.{ℕ, ◌+◌, ◌<◌, ◌≤◌, ◌≡◌, All, List, length, slice_index, slice_index_or}
 use Rattle.std.specs.Prelude.{drop, ltb}
-use Rattle.mill_model.specs.Instance.{Problem, IsOrder, mill_of}
+use Rattle.mill_model.specs.Instance.{IsOrder}
 use Rattle.mill_model.specs.LiveKey.{has_colour}
-use Rattle.mill_model.specs.Log.{Task}
-use Rattle.mill_model.specs.Rank.{ranked_orders}
 use Rattle.mill_model.specs.declared.order.Order.{Order}
-
--- the mill, the charge of each load, and the orders in rank
-abbrev pub task_of : Problem → List ℕ → Task
-task_of problem charges =
-    record {
-      mill = mill_of problem;
-      charge = λ l. slice_index charges l;
-      ranked = ranked_orders problem.orders;
-    }
+use Rattle.mill_model.specs.declared.order.TheConstants.{MAX_ORDERS}
+use Rattle.mill_model.specs.declared.charges.TheConstants.{MAX_CHARGE}
 
 -- orders in rank, a charge of each load up to the largest size, and the limits of both
 pub record IsSetting (ranked : List Order) (charges : List ℕ) (largest most_colours : ℕ) : Type 0
   where
-    pub few : length ranked ≤ 1024
+    pub few : length ranked ≤ MAX_ORDERS
     pub orders : All IsOrder ranked
     pub reach : length charges ≡ largest + 1
     pub none : slice_index charges 0 ≡ 0
-    pub small : All (λ charge. charge ≤ 100000000) charges
+    pub small : All (λ charge. charge ≤ MAX_CHARGE) charges
     pub size : largest ≤ 20000
     pub colours : most_colours ≤ 8
     pub falls :

@@ -5,8 +5,8 @@ use Rattle.mill_model.specs.Plan.{slab}
 use Rattle.mill_model.specs.Prices.{least_slack}
 use Rattle.mill_model.specs.Slab.{Mill}
 use Rattle.mill_model.specs.declared.order.Order.{Order}
-use Rattle.log_checker.specs.Tables.{IsSmall}
-use Rattle.log_checker.specs.declared.key.LiveGroup.{LiveGroup}
+use Rattle.least_slacks.specs.Cells.{IsSmall}
+use Rattle.log_checker.specs.declared.keys.LiveGroup.{LiveGroup}
 
 abbrev pub no_live : LiveGroup
 no_live = record { key = record { load = 0; colours = 0; coming = [] }; group = 0 }

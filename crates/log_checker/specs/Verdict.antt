@@ -1,7 +1,7 @@
 -- What is wrong with a log, and where first.
 use Rattle.std.specs.Prelude.{ℕ, cond, ◌++◌, ◌≡◌, Bool, true, false, not, ◌&&◌, ◌||◌, List, [], ◌∷◌}
 use Rattle.std.specs.List.{list_any}
-use Rattle.mill_model.specs.Sets.{same_list}
+use Rattle.list_laws.specs.Sets.{same_list}
 use Rattle.mill_model.specs.Log.{Task, sound, recorded, left_open, split_children, names_settled}
 use Rattle.mill_model.specs.Log.{Refutes}
 use Rattle.mill_model.specs.declared.closing.Entry.{Entry}

@@ -1,27 +1,32 @@
+// One pass over a log, with the paths that are still to come.
+
 ghost use Rattle.std.specs.Prelude.{◌≡◌, ◌<◌, ◌≤◌, ◌+◌, ◌↔◌, ℕ, [], ◌∷◌, ◌++◌, drop, length, IfOk};
-ghost use Rattle.std.specs.Prelude.{OnOk, IfSome, IfNone, true, false, List, cond, slice_index};
+ghost use Rattle.std.specs.Prelude.{OnOk, IfSome, IfNone, true, false, List, cond};
 ghost use Rattle.std.specs.List.{list_all};
-ghost use Rattle.mill_model.specs.Sets.{same_list};
+ghost use Rattle.list_laws.specs.Sets.{same_list};
 ghost use Rattle.mill_model.specs.Log.{recorded, left_open, Refutes as LogRefutes};
-ghost use Rattle.refute_log.specs.Rising.{comes_before, rises};
+ghost use Rattle.refute_log.specs.Rising.{comes_before, path_order, rises};
 ghost use Rattle.refute_log.specs.Fits.{path_fits, fits};
-ghost use Rattle.mill_model.specs.Instance.{largest, mill_of};
+ghost use Rattle.mill_model.specs.Instance.{mill_of};
 ghost use Rattle.mill_model.specs.Plan.{NoneLosesLess};
-ghost use Rattle.log_checker.specs.Setting.{task_of};
-ghost use Rattle.log_checker.specs.Judged.{task_by, mill_by};
+ghost use Rattle.mill_model.specs.Charges.{charge_of, Reaches};
+ghost use Rattle.mill_model.specs.Log.{task_of};
+ghost use Rattle.log_checker.specs.ByRules.{task_by, mill_by};
 ghost use Rattle.log_checker.specs.Verdict.{is_missing, is_stray, is_unsound, is_wrong, IsFirst};
 ghost use Rattle.log_checker.specs.Verdict.{IsVerdict, verdict_from};
 ghost use Rattle.log_checker.specs.Agenda.{wanted_path, to_come, is_within, is_split, opened_by};
 ghost use Rattle.log_checker.specs.declared.verdict.LogVerdict.TheVariants.{Missing, Stray};
 ghost use Rattle.log_checker.specs.declared.verdict.LogVerdict.TheVariants.{Refutes, Unsound};
+ghost use Rattle.least_slacks.specs.Keys.{HasRoom};
 
 use crate::LogVerdict;
 use crate::agenda::Wanted;
 use crate::groups::groups_of;
-use crate::judge::Judge;
-use crate::setting::judge_of;
+use crate::rules::Rules;
+use crate::setting::rules_of;
 use crate::sound::holds_up;
 use crate::tree::open_children;
+use least_slacks::SlackTables;
 use mill_model::{Charges, Closing, Entry, Instance, OutOfMemory, Path};
 use refute_log::{Log, compare};
 use std::alloc::Global;
@@ -47,17 +52,45 @@ fn missing(alloc: Global, log: &[Entry], wanted: Wanted) -> Result<LogVerdict, O
     Ok(LogVerdict::Missing { path })
 }
 
-/// What is wrong where a record stands at another path than the next one that is wanted.
-fn misplaced(path: &Path, entry: &Entry) -> Result<Option<LogVerdict>, OutOfMemory>
-    ensures apart { IfOk result (λ found. IfSome found (λ v.
-        (same_list path.now entry.now.path ≡ false)
-        × (v ≡ cond (comes_before path.now entry.now.path) (Missing path.now)
-        (Stray entry.now.path)))) }
-    ensures same { IfOk result (λ found.
-        IfNone found (same_list path.now entry.now.path ≡ true)) }
+/// Compares the child of a path with another path.
+fn compare_child(parent: &[u16], group: u16, path: &[u16]) -> Ordering
+    ensures { result ≡ path_order (parent.now ++ group ∷ []) path.now }
 {
-    match compare(path.numbers(), entry.path.numbers()) {
-        Ordering::Less => Ok(Some(LogVerdict::Missing { path: path.copy()? })),
+    let (front, rest) = path.split_at(parent.len().min(path.len()));
+    compare(parent, front).then(compare(&[group], rest))
+}
+
+/// Compares the path that is named with another path.
+fn compare_wanted(log: &[Entry], wanted: Wanted, path: &[u16]) -> Ordering
+    requires { is_within (length log.now) wanted ≡ true }
+    ensures { result ≡ path_order (wanted_path log.now wanted) path.now }
+{
+    match wanted {
+        Wanted::Root => compare(&[], path),
+        Wanted::Child { parent, group } => compare_child(log[parent].path.numbers(), group, path),
+    }
+}
+
+/// What is wrong where a record stands at another path than the next one that is wanted.
+fn misplaced(
+    alloc: Global,
+    log: &[Entry],
+    wanted: Wanted,
+    entry: &Entry,
+) -> Result<Option<LogVerdict>, OutOfMemory>
+    requires { is_within (length log.now) wanted ≡ true }
+    ensures apart { IfOk result (λ found. IfSome found (λ v.
+        (same_list (wanted_path log.now wanted) entry.now.path ≡ false)
+        × (v ≡ cond (comes_before (wanted_path log.now wanted) entry.now.path)
+        (Missing (wanted_path log.now wanted)) (Stray entry.now.path)))) }
+    ensures same { IfOk result (λ found.
+        IfNone found (same_list (wanted_path log.now wanted) entry.now.path ≡ true)) }
+{
+    match compare_wanted(log, wanted, entry.path.numbers()) {
+        Ordering::Less => {
+            let verdict = missing(alloc, log, wanted)?;
+            Ok(Some(verdict))
+        }
         Ordering::Greater => Ok(Some(LogVerdict::Stray {
             path: entry.path.copy()?,
         })),
@@ -69,81 +102,86 @@ fn misplaced(path: &Path, entry: &Entry) -> Result<Option<LogVerdict>, OutOfMemo
 fn open(
     alloc: Global,
     waiting: &mut Vec<Wanted>,
-    judge: &Judge,
+    rules: &Rules,
     entry: &Entry,
     i: usize,
 ) -> Result<(), OutOfMemory>
-    requires fits { path_fits (length judge.now.ranked.items) entry.now.path ≡ true }
+    requires fits { path_fits (length rules.now.ranked.items) entry.now.path ≡ true }
     requires split { is_split entry.now.closing ≡ true →
-        length entry.now.path < length judge.now.ranked.items }
+        length entry.now.path < length rules.now.ranked.items }
     ensures { OnOk result (waiting.new.items ≡ waiting.old.items
-        ++ opened_by (mill_by judge.now) judge.now.ranked.items entry.now i) }
+        ++ opened_by (mill_by rules.now) rules.now.ranked.items entry.now i) }
 {
     if let Closing::Split = entry.closing {
         let path = entry.path.numbers();
-        let groups = groups_of(alloc, judge, path)?;
-        open_children(waiting, judge, &groups, path, i)?;
+        let groups = groups_of(alloc, rules, path)?;
+        open_children(waiting, rules, &groups, path, i)?;
     }
     Ok(())
 }
 
 /// Judges one record, where the last waiting path is the next one that is wanted.
-fn step(
+fn judge_record(
     alloc: Global,
     waiting: &mut Vec<Wanted>,
-    judge: &Judge,
+    rules: &Rules,
+    tables: &mut SlackTables,
     loss: u64,
     log: &[Entry],
     i: usize,
 ) -> Result<Option<LogVerdict>, OutOfMemory>
-    requires fits { list_all (fits (length judge.now.ranked.items)) log.now ≡ true }
+    requires fits { list_all (fits (length rules.now.ranked.items)) log.now ≡ true }
     requires rising { rises (recorded log.now) ≡ true }
     requires here { i < length log.now }
     requires within { list_all (is_within (length log.now)) waiting.old.items ≡ true }
+    requires room { HasRoom rules.now.largest rules.now.most_colours tables.old }
     ensures found { IfOk result (λ found. IfSome found (λ v. v ≡
-        verdict_from (task_by judge.now) loss log.now (to_come log.now waiting.old.items)
+        verdict_from (task_by rules.now) loss log.now (to_come log.now waiting.old.items)
         (drop i log.now))) }
     ensures goes { IfOk result (λ found. IfNone found (
-        verdict_from (task_by judge.now) loss log.now (to_come log.now waiting.new.items)
+        verdict_from (task_by rules.now) loss log.now (to_come log.now waiting.new.items)
         (drop (i + 1) log.now)
-        ≡ verdict_from (task_by judge.now) loss log.now (to_come log.now waiting.old.items)
+        ≡ verdict_from (task_by rules.now) loss log.now (to_come log.now waiting.old.items)
         (drop i log.now))) }
     ensures within { IfOk result (λ found.
         IfNone found (list_all (is_within (length log.now)) waiting.new.items ≡ true)) }
+    ensures room { HasRoom rules.now.largest rules.now.most_colours tables.new }
 {
     let entry = &log[i];
     let Some(wanted) = waiting.pop() else {
         let path = entry.path.copy()?;
         return Ok(Some(LogVerdict::Stray { path }));
     };
-    let path = path_of(alloc, log, wanted)?;
-    match misplaced(&path, entry)? {
+    match misplaced(alloc, log, wanted, entry)? {
         Some(verdict) => return Ok(Some(verdict)),
         None => {}
     }
-    let good = holds_up(alloc, judge, loss, log, entry)?;
+    let good = holds_up(alloc, rules, tables, loss, log, entry)?;
     if !good {
+        let path = entry.path.copy()?;
         return Ok(Some(LogVerdict::Unsound { path }));
     }
-    open(alloc, waiting, judge, entry, i)?;
+    open(alloc, waiting, rules, entry, i)?;
     Ok(None)
 }
 
 /// What is first wrong with a log.
 fn check_by(
     alloc: Global,
-    judge: &Judge,
+    rules: &Rules,
     loss: u64,
     log: &[Entry],
 ) -> Result<LogVerdict, OutOfMemory>
-    requires fits { list_all (fits (length judge.now.ranked.items)) log.now ≡ true }
+    requires fits { list_all (fits (length rules.now.ranked.items)) log.now ≡ true }
     requires rising { rises (recorded log.now) ≡ true }
-    ensures verdict { IfOk result (λ v. IsVerdict (task_by judge.now) loss log.now v) }
+    ensures verdict { IfOk result (λ v. IsVerdict (task_by rules.now) loss log.now v) }
 {
+    let most = rules.most_colours as usize;
+    let mut tables = SlackTables::new(alloc, rules.largest as usize, most)?;
     let mut waiting = Vec::new(alloc);
     waiting.push(Wanted::Root)?;
     for i in 0..log.len() {
-        let found = step(alloc, &mut waiting, judge, loss, log, i)?;
+        let found = judge_record(alloc, &mut waiting, rules, &mut tables, loss, log, i)?;
         match found {
             Some(verdict) => return Ok(verdict),
             None => {}
@@ -165,23 +203,23 @@ pub fn check_log(
     log: &Log,
 ) -> Result<LogVerdict, OutOfMemory>
     requires orders { log.now.orders ≡ length instance.now.orders }
-    requires reach { length charges.now ≡ largest instance.now.sizes + 1 }
+    requires reach { Reaches charges.now (mill_of instance.now) }
     ensures refutes { IfOk result (λ v. (v ≡ Refutes) ↔
-        (LogRefutes (task_of instance.now charges.now) loss log.now.entries)) }
+        (LogRefutes (task_of instance.now (charge_of charges.now)) loss log.now.entries)) }
     ensures missing { (path : List ℕ) → IfOk result (λ v. (v ≡ Missing path) ↔
-        (IsFirst (is_missing (task_of instance.now charges.now) log.now.entries)
-        (is_wrong (task_of instance.now charges.now) loss log.now.entries) path)) }
+        (IsFirst (is_missing (task_of instance.now (charge_of charges.now)) log.now.entries)
+        (is_wrong (task_of instance.now (charge_of charges.now)) loss log.now.entries) path)) }
     ensures stray { (path : List ℕ) → IfOk result (λ v. (v ≡ Stray path) ↔
-        (IsFirst (is_stray (task_of instance.now charges.now) log.now.entries)
-        (is_wrong (task_of instance.now charges.now) loss log.now.entries) path)) }
+        (IsFirst (is_stray (task_of instance.now (charge_of charges.now)) log.now.entries)
+        (is_wrong (task_of instance.now (charge_of charges.now)) loss log.now.entries) path)) }
     ensures unsound { (path : List ℕ) → IfOk result (λ v. (v ≡ Unsound path) ↔
-        (IsFirst (is_unsound (task_of instance.now charges.now) loss log.now.entries)
-        (is_wrong (task_of instance.now charges.now) loss log.now.entries) path)) }
+        (IsFirst (is_unsound (task_of instance.now (charge_of charges.now)) loss log.now.entries)
+        (is_wrong (task_of instance.now (charge_of charges.now)) loss log.now.entries) path)) }
     ensures bound { IfOk result (λ v. v ≡ Refutes →
-        NoneLosesLess (mill_of instance.now) (λ l. slice_index charges.now l) instance.now.orders
+        NoneLosesLess (mill_of instance.now) (charge_of charges.now) instance.now.orders
         loss) }
 {
-    let judge = judge_of(alloc, instance, charges)?;
-    let verdict = check_by(alloc, &judge, loss, log.entries())?;
+    let rules = rules_of(alloc, instance, charges)?;
+    let verdict = check_by(alloc, &rules, loss, log.entries())?;
     Ok(verdict)
 }

@@ -1,33 +1,23 @@
+// The groups of a path: what each weighs, and its colours.
+
 ghost use Rattle.std.specs.Prelude.{◌≡◌, ◌<◌, ◌≤◌, ◌^◌, ◌+◌, ◌*◌, ℕ, [], OnOk, IfOk, length};
 ghost use Rattle.std.specs.Prelude.{replicate, slice_index_or, slice_set};
 ghost use Rattle.mill_model.specs.Tree.{next_new};
-ghost use Rattle.mill_model.specs.Sets.{holds};
 ghost use Rattle.log_checker.specs.Groups.{joined, may_be, with_colour, nothing_seen, AreGroups};
-ghost use Rattle.log_checker.specs.Judged.{mill_by};
+ghost use Rattle.log_checker.specs.ByRules.{mill_by};
 
-use crate::judge::Judge;
+use crate::rules::Rules;
+use least_slacks::has_colour;
 use mill_model::{Order, OutOfMemory};
 use smallvec::SmallVec;
 use std::alloc::Global;
 use std::marker::Model;
 
-/// Whether a colour is there.
-pub(crate) fn has(colours: &[u16], colour: u16) -> bool
-    ensures { result ≡ holds colour colours.now }
-{
-    for c in colours {
-        if colour == *c {
-            return true;
-        }
-    }
-    false
-}
-
 /// Adds a colour that isn't there yet.
 fn note_colour(colours: &mut SmallVec<u16, 8>, colour: u16) -> Result<(), OutOfMemory>
     ensures { OnOk result (colours.new.items ≡ with_colour colour colours.old.items) }
 {
-    if !has(colours.as_slice(), colour) {
+    if !has_colour(colours.as_slice(), colour) {
         colours.push(colour)?;
     }
     Ok(())
@@ -38,7 +28,7 @@ fn count_with(colours: &[u16], colour: u16) -> usize
     requires { length colours.now < 2 ^ 63 }
     ensures { result ≡ length (with_colour colour colours.now) }
 {
-    if has(colours, colour) {
+    if has_colour(colours, colour) {
         colours.len()
     } else {
         colours.len() + 1
@@ -95,12 +85,12 @@ impl Group {
     }
 
     /// Whether the group stays legal with one more order.
-    pub(crate) fn may_join(&self, judge: &Judge, order: Order) -> bool
+    pub(crate) fn may_join(&self, rules: &Rules, order: Order) -> bool
         requires { self.now.load + order.weight < 2 ^ 64 }
-        ensures { result ≡ may_be (mill_by judge.now) (joined self.now order) }
+        ensures { result ≡ may_be (mill_by rules.now) (joined self.now order) }
     {
-        self.load + order.weight as u64 <= judge.largest as u64
-            && count_with(self.colours.as_slice(), order.colour) <= judge.most_colours as usize
+        self.load + order.weight as u64 <= rules.largest as u64
+            && count_with(self.colours.as_slice(), order.colour) <= rules.most_colours as usize
     }
 }
 
@@ -139,13 +129,13 @@ pub(crate) fn join_at(groups: &mut [Group], number: usize, order: Order) -> Resu
 }
 
 /// Puts each order of a path into its group.
-fn fill_groups(groups: &mut [Group], judge: &Judge, path: &[u16]) -> Result<(), OutOfMemory>
-    requires within { length path.now ≤ length judge.now.ranked.items }
+fn fill_groups(groups: &mut [Group], rules: &Rules, path: &[u16]) -> Result<(), OutOfMemory>
+    requires within { length path.now ≤ length rules.now.ranked.items }
     requires empty { groups.old ≡ replicate (next_new path.now) nothing_seen }
-    ensures { OnOk result (AreGroups groups.new path.now judge.now.ranked.items) }
+    ensures { OnOk result (AreGroups groups.new path.now rules.now.ranked.items) }
 {
     for i in 0..path.len() {
-        let order = judge.order(i);
+        let order = rules.order(i);
         join_at(groups, path[i] as usize, order)?;
     }
     Ok(())
@@ -154,13 +144,13 @@ fn fill_groups(groups: &mut [Group], judge: &Judge, path: &[u16]) -> Result<(), 
 /// The groups of a path.
 pub(crate) fn groups_of(
     alloc: Global,
-    judge: &Judge,
+    rules: &Rules,
     path: &[u16],
 ) -> Result<Vec<Group>, OutOfMemory>
-    requires within { length path.now ≤ length judge.now.ranked.items }
-    ensures { IfOk result (λ groups. AreGroups groups.items path.now judge.now.ranked.items) }
+    requires within { length path.now ≤ length rules.now.ranked.items }
+    ensures { IfOk result (λ groups. AreGroups groups.items path.now rules.now.ranked.items) }
 {
     let mut groups = empty_groups(alloc, group_count(path))?;
-    fill_groups(&mut groups, judge, path)?;
+    fill_groups(&mut groups, rules, path)?;
     Ok(groups)
 }

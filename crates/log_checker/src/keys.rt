@@ -1,20 +1,29 @@
+// The live groups of a path by their keys, and whether two paths have the same.
+
 ghost use Rattle.std.specs.Prelude.{◌≡◌, ◌<◌, ◌≤◌, ◌+◌, ◌*◌, ℕ, List, IfOk, OnOk, drop, length};
-ghost use Rattle.std.specs.Prelude.{true};
-ghost use Rattle.std.specs.Prelude.{slice_index_or, slice_set, IfSome, IfNone, false};
+ghost use Rattle.std.specs.Prelude.{true, slice_index_or, slice_set, IfSome, IfNone, false};
 ghost use Rattle.std.specs.List.Sorted.{IsPermutation, IsSortedByKey};
-ghost use Rattle.mill_model.specs.Sets.{different};
+ghost use Rattle.list_laws.specs.Sets.{different};
 ghost use Rattle.log_checker.specs.Groups.{Seen, nothing_seen};
-ghost use Rattle.log_checker.specs.Judged.{mill_by};
+ghost use Rattle.log_checker.specs.ByRules.{mill_by};
 ghost use Rattle.log_checker.specs.Live.{lives, same_live_seen};
 ghost use Rattle.log_checker.specs.Keys.{key_order, key_in, IsKey, AreLive, AreComing, comes_in};
 ghost use Rattle.log_checker.specs.Keys.{AreSorted, same_key, same_keys};
+ghost use Rattle.mill_model.specs.declared.order.TheConstants.{MAX_ORDERS};
 
 use crate::groups::Group;
-use crate::judge::Judge;
-use crate::key::{Key, LiveGroup, NO_COLOUR};
 use crate::live::is_live;
+use crate::rules::Rules;
+use least_slacks::{Key, NO_COLOUR};
 use mill_model::OutOfMemory;
 use std::alloc::Global;
+
+/// A live group with its number among the groups of its path.
+#[derive(Clone, Copy, Debug, Drop)]
+pub(crate) struct LiveGroup {
+    pub(crate) key: Key,
+    pub(crate) group: usize,
+}
 
 /// Puts a colour that comes again behind those that are there.
 fn note_coming(coming: &mut [u16], count: usize, colour: u16, comes: bool) -> usize
@@ -31,16 +40,16 @@ fn note_coming(coming: &mut [u16], count: usize, colour: u16, comes: bool) -> us
 }
 
 /// The colours of a group that come again, rising.
-fn coming_colours(judge: &Judge, group: &Group, k: usize) -> [u16; 8]
+fn coming_colours(rules: &Rules, group: &Group, k: usize) -> [u16; 8]
     requires few { length group.now.colours ≤ 8 }
     requires once { length group.now.colours ≡ different group.now.colours }
-    ensures { AreComing (comes_in (drop k judge.now.ranked.items) group.now) result }
+    ensures { AreComing (comes_in (drop k rules.now.ranked.items) group.now) result }
 {
     let colours = group.colours();
     let mut coming = [NO_COLOUR; 8];
     let mut count = 0;
     for i in 0..colours.len() {
-        let comes = judge.comes(colours[i], k);
+        let comes = rules.comes(colours[i], k);
         count = note_coming(&mut coming, count, colours[i], comes);
     }
     coming.sort_unstable();
@@ -48,16 +57,16 @@ fn coming_colours(judge: &Judge, group: &Group, k: usize) -> [u16; 8]
 }
 
 /// A group as the orders from rank `k` on see it.
-fn key_of(judge: &Judge, group: &Group, k: usize) -> Key
+fn key_of(rules: &Rules, group: &Group, k: usize) -> Key
     requires few { length group.now.colours ≤ 8 }
     requires once { length group.now.colours ≡ different group.now.colours }
-    ensures { IsKey (drop k judge.now.ranked.items) group.now result }
+    ensures { IsKey (drop k rules.now.ranked.items) group.now result }
 {
-    let coming = coming_colours(judge, group, k);
+    let coming = coming_colours(rules, group, k);
     Key {
-        load: group.load(),
-        colours: group.colours().len(),
         coming,
+        colours: group.colours().len(),
+        load: group.load(),
     }
 }
 
@@ -70,44 +79,45 @@ fn sort(live: &mut Vec<LiveGroup>)
 }
 
 /// The key of a group, where it is live.
-fn live_group(judge: &Judge, groups: &[Group], k: usize, g: usize) -> Option<LiveGroup>
+fn live_group(rules: &Rules, groups: &[Group], k: usize, g: usize) -> Option<LiveGroup>
     requires here { g < length groups.now }
-    requires rank { k ≤ length judge.now.ranked.items }
-    requires light { (slice_index_or groups.now g nothing_seen).load ≤ 1024 * 1000000 }
+    requires rank { k ≤ length rules.now.ranked.items }
+    requires light { (slice_index_or groups.now g nothing_seen).load ≤ MAX_ORDERS * 1000000 }
     requires once { length (slice_index_or groups.now g nothing_seen).colours
         ≡ different (slice_index_or groups.now g nothing_seen).colours }
     ensures some { IfSome result (λ live. (live.group ≡ g)
-        × IsKey (drop k judge.now.ranked.items) (slice_index_or groups.now g nothing_seen) live.key
-        × (lives (mill_by judge.now) (drop k judge.now.ranked.items)
+        × IsKey (drop k rules.now.ranked.items) (slice_index_or groups.now g nothing_seen) live.key
+        × (lives (mill_by rules.now) (drop k rules.now.ranked.items)
         (slice_index_or groups.now g nothing_seen) ≡ true)) }
-    ensures none { IfNone result (lives (mill_by judge.now) (drop k judge.now.ranked.items)
+    ensures none { IfNone result (lives (mill_by rules.now) (drop k rules.now.ranked.items)
         (slice_index_or groups.now g nothing_seen) ≡ false) }
 {
     let group = &groups[g];
-    if !is_live(group, judge, k) {
+    if !is_live(group, rules, k) {
         return None;
     }
-    let key = key_of(judge, group, k);
+    let key = key_of(rules, group, k);
     Some(LiveGroup { key, group: g })
 }
 
 /// The live groups of a path, each with its key.
 fn live_groups(
     alloc: Global,
-    judge: &Judge,
+    rules: &Rules,
     groups: &[Group],
     k: usize,
 ) -> Result<Vec<LiveGroup>, OutOfMemory>
-    requires rank { k ≤ length judge.now.ranked.items }
-    requires light { (g : ℕ) → (slice_index_or groups.now g nothing_seen).load ≤ 1024 * 1000000 }
+    requires rank { k ≤ length rules.now.ranked.items }
+    requires light { (g : ℕ) →
+        (slice_index_or groups.now g nothing_seen).load ≤ MAX_ORDERS * 1000000 }
     requires once { (g : ℕ) → length (slice_index_or groups.now g nothing_seen).colours
         ≡ different (slice_index_or groups.now g nothing_seen).colours }
     ensures { IfOk result (λ live.
-        AreLive (mill_by judge.now) (drop k judge.now.ranked.items) groups.now live.items) }
+        AreLive (mill_by rules.now) (drop k rules.now.ranked.items) groups.now live.items) }
 {
     let mut live = Vec::new(alloc);
     for g in 0..groups.len() {
-        match live_group(judge, groups, k, g) {
+        match live_group(rules, groups, k, g) {
             Some(group) => live.push(group)?,
             None => {}
         }
@@ -140,18 +150,19 @@ fn same_keys(a: &[LiveGroup], b: &[LiveGroup]) -> bool
 /// The live groups of a path in the order of their keys.
 pub(crate) fn sorted_live(
     alloc: Global,
-    judge: &Judge,
+    rules: &Rules,
     groups: &[Group],
     k: usize,
 ) -> Result<Vec<LiveGroup>, OutOfMemory>
-    requires rank { k ≤ length judge.now.ranked.items }
-    requires light { (g : ℕ) → (slice_index_or groups.now g nothing_seen).load ≤ 1024 * 1000000 }
+    requires rank { k ≤ length rules.now.ranked.items }
+    requires light { (g : ℕ) →
+        (slice_index_or groups.now g nothing_seen).load ≤ MAX_ORDERS * 1000000 }
     requires once { (g : ℕ) → length (slice_index_or groups.now g nothing_seen).colours
         ≡ different (slice_index_or groups.now g nothing_seen).colours }
-    ensures { IfOk result (λ live. AreSorted (mill_by judge.now) (drop k judge.now.ranked.items)
+    ensures { IfOk result (λ live. AreSorted (mill_by rules.now) (drop k rules.now.ranked.items)
         groups.now live.items) }
 {
-    let mut live = live_groups(alloc, judge, groups, k)?;
+    let mut live = live_groups(alloc, rules, groups, k)?;
     sort(&mut live);
     Ok(live)
 }
@@ -159,24 +170,24 @@ pub(crate) fn sorted_live(
 /// Whether the live groups of two paths are the same, each as often.
 pub(crate) fn same_live(
     alloc: Global,
-    judge: &Judge,
+    rules: &Rules,
     first: &[Group],
     second: &[Group],
     k: usize,
 ) -> Result<bool, OutOfMemory>
-    requires rank { k ≤ length judge.now.ranked.items }
-    requires first_light { (g : ℕ) → (slice_index_or first.now g nothing_seen).load ≤ 1024 *
+    requires rank { k ≤ length rules.now.ranked.items }
+    requires first_light { (g : ℕ) → (slice_index_or first.now g nothing_seen).load ≤ MAX_ORDERS *
         1000000 }
     requires first_once { (g : ℕ) → length (slice_index_or first.now g nothing_seen).colours
         ≡ different (slice_index_or first.now g nothing_seen).colours }
-    requires second_light { (g : ℕ) → (slice_index_or second.now g nothing_seen).load ≤ 1024 *
+    requires second_light { (g : ℕ) → (slice_index_or second.now g nothing_seen).load ≤ MAX_ORDERS *
         1000000 }
     requires second_once { (g : ℕ) → length (slice_index_or second.now g nothing_seen).colours
         ≡ different (slice_index_or second.now g nothing_seen).colours }
     ensures { IfOk result (λ yes. yes ≡
-        same_live_seen (mill_by judge.now) (drop k judge.now.ranked.items) first.now second.now) }
+        same_live_seen (mill_by rules.now) (drop k rules.now.ranked.items) first.now second.now) }
 {
-    let a = sorted_live(alloc, judge, first, k)?;
-    let b = sorted_live(alloc, judge, second, k)?;
+    let a = sorted_live(alloc, rules, first, k)?;
+    let b = sorted_live(alloc, rules, second, k)?;
     Ok(same_keys(&a, &b))
 }

@@ -6,20 +6,12 @@ mod agenda;
 mod check;
 mod dominated;
 mod groups;
-mod items;
-mod judge;
-mod key;
 mod keys;
-mod knapsack;
-mod layers;
 mod live;
 mod price;
+mod rules;
 mod setting;
 mod sound;
-mod stock;
-mod table;
-#[cfg(test)]
-mod tests;
 mod tree;
 mod verdict;
 

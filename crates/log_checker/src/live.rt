@@ -1,34 +1,37 @@
+// Whether a later order may join a group, and what the groups that none may join are charged.
+
 ghost use Rattle.std.specs.Prelude.{◌≡◌, ◌≤◌, ◌*◌, ◌+◌, ℕ, cond, drop, length, slice_index};
 ghost use Rattle.std.specs.Prelude.{slice_index_or};
 ghost use Rattle.std.specs.List.{list_any};
-ghost use Rattle.mill_model.specs.Sets.{total};
+ghost use Rattle.list_laws.specs.Sets.{total};
 ghost use Rattle.log_checker.specs.Groups.{nothing_seen};
 ghost use Rattle.log_checker.specs.Live.{lives, takes_of};
-ghost use Rattle.log_checker.specs.Judged.{mill_by};
+ghost use Rattle.log_checker.specs.ByRules.{mill_by};
+ghost use Rattle.mill_model.specs.declared.order.TheConstants.{MAX_ORDERS};
 
 use crate::groups::Group;
-use crate::judge::Judge;
+use crate::rules::Rules;
 
 /// Whether an order of a colour, from a rank on, may join a group.
-fn takes_of(group: &Group, judge: &Judge, colour: u16, k: usize) -> bool
-    requires light { group.now.load ≤ 1024 * 1000000 }
+fn takes_of(group: &Group, rules: &Rules, colour: u16, k: usize) -> bool
+    requires light { group.now.load ≤ MAX_ORDERS * 1000000 }
     ensures { result ≡
-        takes_of (mill_by judge.now) (drop k judge.now.ranked.items) group.now colour }
+        takes_of (mill_by rules.now) (drop k rules.now.ranked.items) group.now colour }
 {
-    match judge.lightest_of(colour, k) {
-        Some(order) => group.may_join(judge, order),
+    match rules.lightest_of(colour, k) {
+        Some(order) => group.may_join(rules, order),
         None => false,
     }
 }
 
 /// Whether an order of an own colour, from a rank on, may join a group.
-fn takes_own(group: &Group, judge: &Judge, k: usize) -> bool
-    requires light { group.now.load ≤ 1024 * 1000000 }
-    ensures { result ≡ list_any (takes_of (mill_by judge.now) (drop k judge.now.ranked.items)
+fn takes_own(group: &Group, rules: &Rules, k: usize) -> bool
+    requires light { group.now.load ≤ MAX_ORDERS * 1000000 }
+    ensures { result ≡ list_any (takes_of (mill_by rules.now) (drop k rules.now.ranked.items)
         group.now) group.now.colours }
 {
     for colour in group.colours() {
-        if takes_of(group, judge, *colour, k) {
+        if takes_of(group, rules, *colour, k) {
             return true;
         }
     }
@@ -36,32 +39,33 @@ fn takes_own(group: &Group, judge: &Judge, k: usize) -> bool
 }
 
 /// Whether some order from a rank on may join a group.
-pub(crate) fn is_live(group: &Group, judge: &Judge, k: usize) -> bool
-    requires light { group.now.load ≤ 1024 * 1000000 }
-    ensures { result ≡ lives (mill_by judge.now) (drop k judge.now.ranked.items) group.now }
+pub(crate) fn is_live(group: &Group, rules: &Rules, k: usize) -> bool
+    requires light { group.now.load ≤ MAX_ORDERS * 1000000 }
+    ensures { result ≡ lives (mill_by rules.now) (drop k rules.now.ranked.items) group.now }
 {
     // No other order may join a group that has as many colours as may be.
-    if judge.most_colours as usize <= group.colours().len() {
-        return takes_own(group, judge, k);
+    if rules.most_colours as usize <= group.colours().len() {
+        return takes_own(group, rules, k);
     }
-    match judge.lightest(k) {
-        Some(order) => group.may_join(judge, order),
+    match rules.lightest(k) {
+        Some(order) => group.may_join(rules, order),
         None => false,
     }
 }
 
 /// What the groups that aren't live are charged.
-pub(crate) fn dead_charge(groups: &[Group], judge: &Judge, k: usize) -> u64
+pub(crate) fn dead_charge(groups: &[Group], rules: &Rules, k: usize) -> u64
     requires few { length groups.now ≤ 65536 }
-    requires light { (g : ℕ) → (slice_index_or groups.now g nothing_seen).load ≤ 1024 * 1000000 }
-    ensures { result ≡ total (length groups.now) (λ g. cond (lives (mill_by judge.now) (drop k
-        judge.now.ranked.items) (slice_index_or groups.now g nothing_seen)) 0 (slice_index
-        judge.now.charges.items (slice_index_or groups.now g nothing_seen).load)) }
+    requires light { (g : ℕ) →
+        (slice_index_or groups.now g nothing_seen).load ≤ MAX_ORDERS * 1000000 }
+    ensures { result ≡ total (length groups.now) (λ g. cond (lives (mill_by rules.now) (drop k
+        rules.now.ranked.items) (slice_index_or groups.now g nothing_seen)) 0 (slice_index
+        rules.now.charges.items (slice_index_or groups.now g nothing_seen).load)) }
 {
     let mut sum = 0u64;
     for g in 0..groups.len() {
-        if !is_live(&groups[g], judge, k) {
-            sum += judge.charge(groups[g].load());
+        if !is_live(&groups[g], rules, k) {
+            sum += rules.charge(groups[g].load());
         }
     }
     sum

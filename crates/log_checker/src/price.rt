@@ -1,54 +1,36 @@
 // Records by prices.
 
-ghost use Rattle.std.specs.Prelude.{◌≡◌, ◌<◌, ◌≤◌, ◌+◌, ◌-◌, ◌*◌, ◌&&◌, ℕ, List, IfOk, All, true};
-ghost use Rattle.std.specs.Prelude.{drop, length, ltb, slice_index, slice_index_or, slice_set};
-ghost use Rattle.std.specs.Prelude.{◌-ℤ◌, ◌*ℤ◌, pos, int_lt};
+ghost use Rattle.std.specs.Prelude.{◌≡◌, ◌<◌, ◌≤◌, ◌+◌, ◌*◌, ℕ, IfOk, All, true, drop, length, map};
+ghost use Rattle.std.specs.Prelude.{slice_index, slice_index_or, slice_set, ◌-ℤ◌, ◌*ℤ◌, pos};
+ghost use Rattle.std.specs.Prelude.{int_lt};
+ghost use Rattle.list_laws.specs.Sets.{int_sum};
 ghost use Rattle.mill_model.specs.Limits.{IsPrice};
 ghost use Rattle.mill_model.specs.Log.{sound};
-ghost use Rattle.mill_model.specs.Prices.{least_slack, valid};
-ghost use Rattle.mill_model.specs.Sets.{different, int_sum};
 ghost use Rattle.mill_model.specs.Tree.{next_new};
-ghost use Rattle.mill_model.specs.declared.order.Order.{Order};
 ghost use Rattle.mill_model.specs.declared.closing.Closing.TheVariants.{Priced};
 ghost use Rattle.refute_log.specs.Fits.{path_fits};
-ghost use Rattle.log_checker.specs.Groups.{AreGroups, IsSeen, nothing_seen};
-ghost use Rattle.log_checker.specs.Judged.{mill_by, task_by};
-ghost use Rattle.log_checker.specs.Keys.{same_key};
-ghost use Rattle.log_checker.specs.Live.{lives};
-ghost use Rattle.log_checker.specs.Slacks.{AreSlacks, slack_of, no_live};
-ghost use Rattle.log_checker.specs.Stocked.{HasRoom, IsStocked};
-ghost use Rattle.log_checker.specs.Tables.{IsSmall};
+ghost use Rattle.least_slacks.specs.Cells.{IsSmall};
+ghost use Rattle.least_slacks.specs.Keys.{AreLeast, HasRoom};
+ghost use Rattle.least_slacks.specs.Limits.{mill_within};
+ghost use Rattle.log_checker.specs.Groups.{AreGroups, nothing_seen};
+ghost use Rattle.log_checker.specs.ByRules.{mill_by, task_by};
+ghost use Rattle.log_checker.specs.Keys.{AreSorted, key_in};
+ghost use Rattle.log_checker.specs.Slacks.{AreSlacks, slack_of};
+ghost use Rattle.mill_model.specs.declared.order.TheConstants.{MAX_ORDERS};
 
 use crate::groups::{Group, groups_of};
-use crate::judge::Judge;
-use crate::key::LiveGroup;
-use crate::keys::{same_key, sorted_live};
-use crate::knapsack::Tables;
-use crate::stock::{Stock, by_colour};
+use crate::keys::{LiveGroup, sorted_live};
+use crate::rules::Rules;
+use least_slacks::{Key, SlabLimits, SlackTables, least_slacks};
 use mill_model::{OutOfMemory, Prices};
 use std::alloc::Global;
 
-/// Whether prices of later orders are valid.
-fn are_valid(tables: &mut Tables, judge: &Judge, stock: &Stock) -> bool
-    requires room { HasRoom judge.now tables.old }
-    requires stock { IsStocked stock.now }
-    ensures is { result ≡ valid (mill_by judge.now) (λ l. slice_index judge.now.charges.items l)
-        stock.now.rest.now stock.now.prices.now }
-    ensures room { HasRoom judge.now tables.new }
+/// The keys of some live groups.
+fn keys_of(alloc: Global, live: &[LiveGroup]) -> Result<Vec<Key>, OutOfMemory>
+    ensures { IfOk result (λ keys. keys.items ≡ map key_in live.now) }
 {
-    0 <= tables.least_slack(judge, stock, 0, &[])
-}
-
-/// Whether the live group of a place has the key of the one before it.
-fn is_like_last(live: &[LiveGroup], i: usize) -> bool
-    requires { i < length live.now }
-    ensures { result ≡ (ltb 0 i && same_key (slice_index_or live.now i no_live).key
-        (slice_index_or live.now (i - 1) no_live).key) }
-{
-    if i == 0 {
-        return false;
-    }
-    same_key(live[i].key, live[i - 1].key)
+    let keys = live.iter().map(|live| live.key).collect(alloc)?;
+    Ok(keys)
 }
 
 /// Notes the slack of a group.
@@ -59,90 +41,56 @@ fn set_slack(slacks: &mut Vec<i64>, g: usize, slack: i64)
     slacks[g] = slack;
 }
 
-/// The least slack of a live group, which is `last` where the group is like the last one.
-fn slack_after(
-    tables: &mut Tables,
-    judge: &Judge,
-    stock: &Stock,
-    group: &Group,
-    is_like_last: bool,
-    last: i64,
-) -> i64
-    requires room { HasRoom judge.now tables.old }
-    requires stock { IsStocked stock.now }
-    requires live { lives (mill_by judge.now) stock.now.rest.now group.now ≡ true }
-    requires once { length group.now.colours ≡ different group.now.colours }
-    requires small { IsSmall 30000000000000 last }
-    ensures is { (orders : List Order) → IsSeen group.now orders →
-        (is_like_last ≡ true → last ≡ least_slack (mill_by judge.now)
-        (λ l. slice_index judge.now.charges.items l) orders stock.now.rest.now
-        stock.now.prices.now) →
-        result ≡ least_slack (mill_by judge.now) (λ l. slice_index judge.now.charges.items l) orders
-        stock.now.rest.now stock.now.prices.now }
-    ensures small { IsSmall 30000000000000 result }
-    ensures room { HasRoom judge.now tables.new }
-{
-    if is_like_last {
-        return last;
-    }
-    tables.least_slack(judge, stock, group.load() as usize, group.colours())
-}
-
 /// What each group is charged, 60 times.
-fn charges_of(alloc: Global, judge: &Judge, groups: &[Group]) -> Result<Vec<i64>, OutOfMemory>
+fn charges_of(alloc: Global, rules: &Rules, groups: &[Group]) -> Result<Vec<i64>, OutOfMemory>
     ensures long { IfOk result (λ slacks. length slacks.items ≡ length groups.now) }
     ensures small { IfOk result (λ slacks. All (IsSmall 30000000000000) slacks.items) }
     ensures each { IfOk result (λ slacks. (g : ℕ) → g < length groups.now →
-        slice_index_or slacks.items g (pos 0) ≡ pos (60 * slice_index judge.now.charges.items
+        slice_index_or slacks.items g (pos 0) ≡ pos (60 * slice_index rules.now.charges.items
         (slice_index_or groups.now g nothing_seen).load)) }
 {
     let mut slacks = Vec::new(alloc);
     for g in 0..groups.len() {
-        let slack = (60 * judge.charge(groups[g].load())) as i64;
+        let slack = (60 * rules.charge(groups[g].load())) as i64;
         slacks.push(slack)?;
     }
     Ok(slacks)
 }
 
-/// The least slack of each group of a path. Equal live groups are taken once.
+/// The least slack of each group of a path, where those of the live ones are given.
 fn slacks_of(
     alloc: Global,
-    tables: &mut Tables,
-    judge: &Judge,
-    stock: &Stock,
+    rules: &Rules,
+    limits: &SlabLimits,
     path: &[u16],
+    prices: &[i64],
     groups: &[Group],
+    live: &[LiveGroup],
+    least: &[i64],
 ) -> Result<Vec<i64>, OutOfMemory>
-    requires room { HasRoom judge.now tables.old }
-    requires stock { IsStocked stock.now }
-    requires rest { stock.now.rest.now ≡ drop (length path.now) judge.now.ranked.items }
-    requires rank { length path.now ≤ length judge.now.ranked.items }
-    requires groups { AreGroups groups.now path.now judge.now.ranked.items }
-    ensures { IfOk result (λ slacks. AreSlacks (next_new path.now) (slack_of (mill_by judge.now)
-        judge.now.charges.items judge.now.ranked.items path.now stock.now.prices.now)
+    requires rank { length path.now ≤ length rules.now.ranked.items }
+    requires same { length path.now + length prices.now ≡ length rules.now.ranked.items }
+    requires groups { AreGroups groups.now path.now rules.now.ranked.items }
+    requires live { AreSorted (mill_by rules.now) (drop (length path.now) rules.now.ranked.items)
+        groups.now live.now }
+    requires mill { mill_within limits.now ≡ mill_by rules.now }
+    requires charges { limits.now.charges.now ≡ rules.now.charges.items }
+    requires least { AreLeast limits.now (drop (length path.now) rules.now.ranked.items) prices.now
+        (map key_in live.now) least.now }
+    ensures { IfOk result (λ slacks. AreSlacks (next_new path.now) (slack_of (mill_by rules.now)
+        rules.now.charges.items rules.now.ranked.items path.now prices.now)
         slacks.items) }
 {
-    let live = sorted_live(alloc, judge, groups, path.len())?;
-    let mut slacks = charges_of(alloc, judge, groups)?;
-    let mut last = 0;
+    let mut slacks = charges_of(alloc, rules, groups)?;
     for i in 0..live.len() {
-        let g = live[i].group;
-        last = slack_after(
-            tables,
-            judge,
-            stock,
-            &groups[g],
-            is_like_last(&live, i),
-            last,
-        );
-        set_slack(&mut slacks, g, last);
+        set_slack(&mut slacks, live[i].group, least[i]);
     }
     Ok(slacks)
 }
 
 /// The sum of some numbers.
 fn sum_of(numbers: &[i64]) -> i64
-    requires few { length numbers.now ≤ 1024 }
+    requires few { length numbers.now ≤ MAX_ORDERS }
     requires small { All (IsSmall 30000000000000) numbers.now }
     ensures is { result ≡ int_sum numbers.now }
     ensures small { IsSmall 30720000000000000 result }
@@ -164,48 +112,51 @@ fn exceeds(worth: i64, loss: u64) -> bool
 /// Whether prices of the later orders of a path are valid, and worth more than any lesser loss.
 fn over_later(
     alloc: Global,
-    judge: &Judge,
+    rules: &Rules,
+    tables: &mut SlackTables,
     loss: u64,
     path: &[u16],
     prices: &[i64],
 ) -> Result<bool, OutOfMemory>
-    requires fits { path_fits (length judge.now.ranked.items) path.now ≡ true }
-    requires same { length path.now + length prices.now ≡ length judge.now.ranked.items }
+    requires fits { path_fits (length rules.now.ranked.items) path.now ≡ true }
+    requires same { length path.now + length prices.now ≡ length rules.now.ranked.items }
     requires priced { All IsPrice prices.now }
-    ensures { IfOk result (λ yes. yes ≡ sound (task_by judge.now) loss path.now
+    requires room { HasRoom rules.now.largest rules.now.most_colours tables.old }
+    ensures is { IfOk result (λ yes. yes ≡ sound (task_by rules.now) loss path.now
         (Priced prices.now)) }
+    ensures room { HasRoom rules.now.largest rules.now.most_colours tables.new }
 {
-    let rest = judge.later(path.len());
-    let items = by_colour(alloc, rest)?;
-    let stock = Stock {
-        rest,
-        prices,
-        items: &items,
-    };
-    let mut tables = Tables::new(alloc, judge)?;
-    if !are_valid(&mut tables, judge, &stock) {
+    let rest = rules.later(path.len());
+    let groups = groups_of(alloc, rules, path)?;
+    let live = sorted_live(alloc, rules, &groups, path.len())?;
+    let keys = keys_of(alloc, &live)?;
+    let limits = rules.limits();
+    let found = least_slacks(alloc, tables, &limits, rest, prices, &keys)?;
+    let Some(least) = found else {
         return Ok(false);
-    }
-    let groups = groups_of(alloc, judge, path)?;
-    let slacks = slacks_of(alloc, &mut tables, judge, &stock, path, &groups)?;
+    };
+    let slacks = slacks_of(alloc, rules, &limits, path, prices, &groups, &live, &least)?;
     Ok(exceeds(sum_of(&slacks) + sum_of(prices), loss))
 }
 
 /// Whether a record by prices is sound.
 pub(crate) fn priced_is_sound(
     alloc: Global,
-    judge: &Judge,
+    rules: &Rules,
+    tables: &mut SlackTables,
     loss: u64,
     path: &[u16],
     prices: &Prices,
 ) -> Result<bool, OutOfMemory>
-    requires { path_fits (length judge.now.ranked.items) path.now ≡ true }
-    ensures { IfOk result (λ yes. yes ≡ sound (task_by judge.now) loss path.now
+    requires fits { path_fits (length rules.now.ranked.items) path.now ≡ true }
+    requires room { HasRoom rules.now.largest rules.now.most_colours tables.old }
+    ensures is { IfOk result (λ yes. yes ≡ sound (task_by rules.now) loss path.now
         (Priced prices.now)) }
+    ensures room { HasRoom rules.now.largest rules.now.most_colours tables.new }
 {
     let list = prices.list();
-    if path.len() > judge.ranked.len() || list.len() != judge.ranked.len() - path.len() {
+    if path.len() > rules.ranked.len() || list.len() != rules.ranked.len() - path.len() {
         return Ok(false);
     }
-    over_later(alloc, judge, loss, path, list)
+    over_later(alloc, rules, tables, loss, path, list)
 }

@@ -1,12 +1,18 @@
+// What an instance says to the checker, once for all records.
+
 ghost use Rattle.std.specs.Prelude.{◌≡◌, ◌<◌, ◌≤◌, ◌+◌, ℕ, All, length, slice_index, IfOk};
 ghost use Rattle.std.specs.Prelude.{slice_index_or};
-ghost use Rattle.mill_model.specs.Instance.{largest, IsOrder};
+ghost use Rattle.mill_model.specs.Instance.{IsOrder};
 ghost use Rattle.mill_model.specs.Rank.{ranked_orders};
 ghost use Rattle.mill_model.specs.declared.order.Order.{Order};
-ghost use Rattle.log_checker.specs.Setting.{task_of, AreEnds};
-ghost use Rattle.log_checker.specs.Judged.{task_by};
+ghost use Rattle.log_checker.specs.Setting.{AreEnds};
+ghost use Rattle.mill_model.specs.Charges.{charge_of, Reaches};
+ghost use Rattle.mill_model.specs.Instance.{mill_of};
+ghost use Rattle.mill_model.specs.Log.{task_of};
+ghost use Rattle.log_checker.specs.ByRules.{task_by};
+ghost use Rattle.mill_model.specs.declared.charges.TheConstants.{MAX_CHARGE};
 
-use crate::judge::Judge;
+use crate::rules::Rules;
 use mill_model::{Charges, Instance, Order, OutOfMemory};
 use std::alloc::Global;
 
@@ -28,11 +34,11 @@ fn ranked(alloc: Global, orders: &[Order]) -> Result<Vec<Order>, OutOfMemory>
 
 /// The charges as a table.
 fn table(alloc: Global, charges: &Charges, largest: u32) -> Result<Vec<u64>, OutOfMemory>
-    requires reach { length charges.now ≡ largest + 1 }
+    requires reach { length charges.now.list ≡ largest + 1 }
     requires small { largest ≤ 20000 }
-    ensures is { IfOk result (λ table. table.items ≡ charges.now) }
+    ensures is { IfOk result (λ table. table.items ≡ charges.now.list) }
     ensures none { IfOk result (λ table. slice_index table.items 0 ≡ 0) }
-    ensures limit { IfOk result (λ table. All (λ charge. charge ≤ 100000000) table.items) }
+    ensures limit { IfOk result (λ table. All (λ charge. charge ≤ MAX_CHARGE) table.items) }
 {
     let mut table = Vec::with_capacity(alloc, largest as usize + 1)?;
     for load in 0..largest + 1 {
@@ -63,21 +69,22 @@ fn fill_last(last: &mut [usize], ranked: &[Order])
 }
 
 /// What the logs of an instance are judged by.
-pub(crate) fn judge_of(
+pub(crate) fn rules_of(
     alloc: Global,
     instance: &Instance,
     charges: &Charges,
-) -> Result<Judge, OutOfMemory>
-    requires reach { length charges.now ≡ largest instance.now.sizes + 1 }
-    ensures is { IfOk result (λ judge. task_by judge ≡ task_of instance.now charges.now) }
-    ensures count { IfOk result (λ judge.
-        length judge.ranked.items ≡ length instance.now.orders) }
+) -> Result<Rules, OutOfMemory>
+    requires reach { Reaches charges.now (mill_of instance.now) }
+    ensures is { IfOk result (λ rules.
+        task_by rules ≡ task_of instance.now (charge_of charges.now)) }
+    ensures count { IfOk result (λ rules.
+        length rules.ranked.items ≡ length instance.now.orders) }
 {
     let ranked = ranked(alloc, instance.orders())?;
     let largest = instance.largest();
     let charges = table(alloc, charges, largest)?;
     let last = last_ranks(alloc, &ranked)?;
-    Ok(Judge {
+    Ok(Rules {
         ranked,
         charges,
         largest,

@@ -1,8 +1,9 @@
--- Tables of charges.
-use Rattle.std.specs.Prelude.{ℕ, ◌+◌, ◌≡◌, List, length, slice_index}
-use Rattle.mill_model.specs.Instance.{Problem, largest, loss_charge}
+-- Tables of the losses.
+use Rattle.std.specs.Prelude.{ℕ, ◌≡◌}
+use Rattle.mill_model.specs.Instance.{Problem, mill_of, loss_charge}
+use Rattle.mill_model.specs.Charges.{ChargeTable, Reaches, charge_of}
 
 -- a table has the charge of each load, up to the largest size
-pub record AreCharges (problem : Problem) (charges : List ℕ) : Type 0 where
-  pub reach : length charges ≡ largest problem.sizes + 1
-  pub each : (load : ℕ) → slice_index charges load ≡ loss_charge problem.sizes load
+pub record AreCharges (problem : Problem) (charges : ChargeTable) : Type 0 where
+  pub reach : Reaches charges (mill_of problem)
+  pub each : (load : ℕ) → charge_of charges load ≡ loss_charge problem.sizes load

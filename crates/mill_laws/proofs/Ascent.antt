@@ -11,7 +11,7 @@ use Rattle.std.proofs.Common.{◌∷◌, ◌++◌, map, length, get_or, set, rep
 use Rattle.std.proofs.Common.{◌+ℤ◌, ◌-ℤ◌, ◌≤ℤ◌, int_le, refl, ap, ◌∙◌, arith, inl, inr, length-set}
 use Rattle.std.proofs.lemmas.Int.{ints}
 use Rattle.std.specs.List.{AllByRecursion}
-use Rattle.mill_model.specs.Sets.{chosen, int_sum, below}
+use Rattle.list_laws.specs.Sets.{chosen, int_sum, below}
 use Rattle.mill_model.specs.Slab.{Mill, load, legal}
 use Rattle.mill_model.specs.Plan.{slab}
 use Rattle.mill_model.specs.Tree.{later_orders, next_new}
@@ -19,30 +19,16 @@ use Rattle.mill_model.specs.Prices.{slack, legal_sets, valid, least_slack, worth
 use Rattle.mill_model.specs.Bounds.{in_set, least_of, slacks, or_zero, no_prices, first_slack}
 use Rattle.mill_model.specs.Bounds.{slacks_on, ascent_slacks, ascent, ascent_prices, ascent_worth}
 use Rattle.mill_model.specs.declared.order.Order.{Order}
-use Rattle.mill_laws.proofs.Lists.{Among, Among-append_left, Among-append_right, Among-unappend}
-use Rattle.mill_laws.proofs.Lists.{Among-map, Among-unmap, all-from, among-below, below-lt}
-use Rattle.mill_laws.proofs.Lists.{int_total-cong}
-use Rattle.mill_laws.proofs.Different.{either}
+use Rattle.list_laws.proofs.Among.{Among, Among-append_left, Among-append_right, Among-unappend}
+use Rattle.list_laws.proofs.Among.{Among-map, Among-unmap, all-from, among-below, below-lt}
+use Rattle.list_laws.proofs.Sums.{int_total-cong}
+use Rattle.list_laws.proofs.Tests.{either}
 use Rattle.mill_laws.proofs.Least.{or_zero-le, or_zero-in}
 use Rattle.mill_laws.proofs.Slacks.{among-slacks, from-slacks, least_slack-glb, least_slack-below}
 use Rattle.mill_laws.proofs.Slacks.{slack-change, set-back}
+use Rattle.list_laws.proofs.Among.{flat-among, flat-unamong}
 
 -- Lists that are joined.
-
-pub flat-among : {Y : Type 0} (f : ℕ → List Y) (y : Y) (g : ℕ) (gs : List ℕ) → Among g gs →
-    Among y (f g) → Among y (flat_map f gs)
-flat-among f y g [] h k = absurd h
-flat-among f y g (x ∷ gs) (inl e) k = Among-append_left y (f x) (flat_map f gs) (rw (← e) k)
-flat-among f y g (x ∷ gs) (inr h) k =
-    Among-append_right y (f x) (flat_map f gs) (flat-among f y g gs h k)
-
-pub flat-unamong : {Y : Type 0} (f : ℕ → List Y) (y : Y) (gs : List ℕ) → Among y (flat_map f gs) →
-    (g : ℕ) × Among g gs × Among y (f g)
-flat-unamong f y [] h = absurd h
-flat-unamong f y (x ∷ gs) h = elim (Among-unappend y (f x) (flat_map f gs) h) [
-  | inl a ↦ (x, inl refl, a)
-  | inr b ↦ (let r = flat-unamong f y gs b in (r.0, inr r.1, r.2))
-]
 
 -- Prices that are not negative.
 

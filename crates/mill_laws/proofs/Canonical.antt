@@ -1,21 +1,28 @@
 -- The canonical form of a plan has the same slabs, so it is legal where the plan is and loses what
 -- the plan loses, and its numbers grow.
-use Rattle.std.proofs.Common.{ℕ, zero, suc, ◌+◌, ◌<◌, ◌≤◌, ◌≡◌, ◌≢◌, ◌⊎◌, max, eqb, leb, ltb, Bool}
-use Rattle.std.proofs.Common.{true, false, cond, ◌&&◌, ◌||◌, List, [], ◌∷◌, ◌++◌, map, length, refl}
+use Rattle.std.proofs.Common.{ℕ, suc, ◌<◌, ◌≤◌, ◌≡◌, ◌≢◌, ◌⊎◌, max, eqb, leb, ltb, Bool}
+use Rattle.std.proofs.Common.{true, false, cond, ◌&&◌, List, [], ◌∷◌, ◌++◌, map, length, refl}
 use Rattle.std.proofs.Common.{sym, ap, ap₂, ◌∙◌, arith, inl, inr, eq-eqb, eqb-true, ne_eqb}
-use Rattle.std.proofs.Common.{ltb-true, le-leb, false-eqb, append_assoc}
-use Rattle.std.proofs.lemmas.Bool.Decides.{nat_tests}
+use Rattle.std.proofs.Common.{le-leb, false-eqb, append_assoc}
 use Rattle.std.specs.List.{list_all}
-use Rattle.mill_model.specs.Sets.{holds, different, total, chosen}
+use Rattle.list_laws.specs.Sets.{holds, different, chosen}
 use Rattle.mill_model.specs.Slab.{Mill, load, legal}
 use Rattle.mill_model.specs.Plan.{slab, loss}
 use Rattle.mill_model.specs.Tree.{next_new, before_first_of, canonical}
 use Rattle.mill_model.specs.declared.order.Order.{Order}
 pub use Rattle.mill_model.proofs.FirstPlaces.{before-lacks, before-within, before-old, before-new}
-pub use Rattle.mill_model.proofs.FirstPlaces.{Within-cons, different-push}
-use Rattle.mill_laws.proofs.Lists.{numbers-below, and-left, and-right, total-cong}
-use Rattle.mill_laws.proofs.Different.{different-length, either, or-cases, or-left, or-right}
-use Rattle.mill_laws.proofs.Different.{Within, different-less}
+pub use Rattle.list_laws.proofs.Different.{Within-cons, different-push}
+use Rattle.mill_laws.proofs.Groups.{numbers-below}
+use Rattle.list_laws.proofs.Tests.{either, or-left, or-right}
+use Rattle.list_laws.proofs.Sums.{total-cong}
+use Rattle.list_laws.proofs.Different.{different-length, Within, different-less}
+use Rattle.list_laws.proofs.Different.{holds-map-from}
+use Rattle.mill_model.proofs.Slabs.{slab-unused}
+use Rattle.mill_model.proofs.Slabs.{legal-none}
+use Rattle.mill_laws.proofs.Groups.{next_new-le}
+use Rattle.list_laws.proofs.LastPlaces.{only}
+use Rattle.list_laws.proofs.LastPlaces.{total-by_last}
+use Rattle.list_laws.proofs.LastPlaces.{by_last-map}
 
 -- Slabs get different numbers: of two numbers of a plan one comes first, and what stands before it
 -- is less than what stands before the other.
@@ -116,76 +123,7 @@ canonical-grows plan = grows-from plan [] plan refl
 -- The loss as a sum over places: each slab is charged at its last place. Such a sum does not ask
 -- what the numbers are, only which places have equal ones.
 
-abbrev pub by_last : (ℕ → ℕ) → List ℕ → ℕ
-by_last f [] = 0
-by_last f (s ∷ plan) = cond (holds s plan) 0 (f s) + by_last f plan
-
--- f on the slabs of a plan, and 0 elsewhere
-abbrev pub only : (ℕ → ℕ) → List ℕ → ℕ → ℕ
-only f plan s = cond (holds s plan) (f s) 0
-
-pub total-add : (n : ℕ) (f g : ℕ → ℕ) → total n (λ s. f s + g s) ≡ total n f + total n g
-total-add zero f g = refl
-total-add (suc n) f g = omega (arith, total-add n f g)
-
-pub total-zero : (n : ℕ) → total n (λ s. 0) ≡ 0
-total-zero zero = refl
-total-zero (suc n) = omega (arith, total-zero n)
-
-total-none : (n t a : ℕ) → n ≤ t → total n (λ s. cond (eqb s t) a 0) ≡ 0
-total-none zero t a h = refl
-total-none (suc n) t a h = grind (arith, nat_tests, total-none n t a)
-
-pub total-one : (n t a : ℕ) → t < n → total n (λ s. cond (eqb s t) a 0) ≡ a
-total-one zero t a h = absurd (omega arith)
-total-one (suc n) t a h = grind (arith, nat_tests, total-one n t a, total-none n t a)
-
-pub total-by_last : (n : ℕ) (f : ℕ → ℕ) (plan : List ℕ) → list_all (λ t. ltb t n) plan ≡ true →
-    total n (only f plan) ≡ by_last f plan
-total-by_last n f [] h = total-zero n
-total-by_last n f (t ∷ plan) h =
-    let here : ℕ → ℕ = λ s. cond (eqb s t) (cond (holds t plan) 0 (f t)) 0 in
-    total-cong n (only f (t ∷ plan)) (λ s. here s + only f plan s) (λ s l. step s)
-    ∙ total-add n here (only f plan)
-    ∙ ap₂ (λ a b. a + b) (total-one n t (cond (holds t plan) 0 (f t)) (ltb-true t n
-    (and-left (ltb t n) _ h))) (total-by_last n f plan (and-right (ltb t n) _ h))
-  where
-    step : (s : ℕ) → only f (t ∷ plan) s ≡ cond (eqb s t) (cond (holds t plan) 0 (f t)) 0
-        + only f plan s
-    step s = elim (either (eqb s t)) [
-      | inl e ↦ rw (e, eqb-true s t e) (grind arith)
-      | inr e ↦ rw e (omega arith)
-    ]
-
--- a renaming that keeps apart the numbers of a plan keeps the sum
-pub by_last-map : (f F G : ℕ → ℕ) (plan : List ℕ) →
-    ((s t : ℕ) → holds s plan ≡ true → holds t plan ≡ true → eqb (f s) (f t) ≡ eqb s t) →
-    ((s : ℕ) → holds s plan ≡ true → G (f s) ≡ F s) → by_last G (map f plan) ≡ by_last F plan
-by_last-map f F G [] apart same = refl
-by_last-map f F G (s ∷ plan) apart same =
-    let here : holds s (s ∷ plan) ≡ true = or-left (eqb s s) _ (eq-eqb s s refl) in
-    let later : (t : ℕ) → holds t plan ≡ true → holds t (s ∷ plan) ≡ true =
-    λ t h. or-right (eqb t s) _ h in
-    let old : holds (f s) (map f plan) ≡ holds s plan =
-    holds-map plan (λ t k. apart s t here (later t k)) in
-    rw (old, same s here) (ap (λ r. cond (holds s plan) 0 (F s) + r)
-    (by_last-map f F G plan (λ s' t h k. apart s' t (later s' h) (later t k)) (λ s' h.
-    same s' (later s' h))))
-  where
-    holds-map : (more : List ℕ) → ((t : ℕ) → holds t more ≡ true → eqb (f s) (f t) ≡ eqb s t) →
-        holds (f s) (map f more) ≡ holds s more
-    holds-map [] h = refl
-    holds-map (t ∷ more) h =
-        ap₂ (λ a b. a || b) (h t (or-left (eqb t t) _ (eq-eqb t t refl)))
-        (holds-map more (λ t' k. h t' (or-right (eqb t' t) _ k)))
-
 -- The slabs of a renumbered plan.
-
-pub slab-unused : (s : ℕ) (plan : List ℕ) (orders : List Order) → holds s plan ≡ false →
-    slab s plan orders ≡ []
-slab-unused s [] orders h = refl
-slab-unused s (t ∷ plan) [] h = refl
-slab-unused s (t ∷ plan) (o ∷ orders) h = grind (arith, slab-unused s plan orders)
 
 pub slab-renamed : (f : ℕ → ℕ) (s : ℕ) (plan : List ℕ) (orders : List Order) →
     ((t : ℕ) → holds t plan ≡ true → eqb (f s) (f t) ≡ eqb s t) →
@@ -198,23 +136,6 @@ slab-renamed f s plan orders h = ap (λ marks. chosen marks orders) (marks plan 
     marks (t ∷ plan) h =
         ap₂ (λ a b. a ∷ b) (h t (or-left (eqb t t) _ (eq-eqb t t refl)))
         (marks plan (λ t' k. h t' (or-right (eqb t' t) _ k)))
-
-pub holds-map-from : (f : ℕ → ℕ) (i : ℕ) (plan : List ℕ) → holds i (map f plan) ≡ true →
-    (s : ℕ) × (holds s plan ≡ true) × (i ≡ f s)
-holds-map-from f i [] h = grind arith
-holds-map-from f i (t ∷ plan) h = elim (or-cases (eqb i (f t)) (holds i (map f plan)) h) [
-  | inl e ↦ (t, or-left (eqb t t) _ (eq-eqb t t refl), eqb-true i (f t) e)
-  | inr e ↦ (let r = holds-map-from f i plan e in (r.0, or-right (eqb r.0 t) _ r.1, r.2))
-]
-
-pub next_new-le : (n : ℕ) (xs : List ℕ) → ((i : ℕ) → holds i xs ≡ true → i < n) → next_new xs ≤ n
-next_new-le n [] h = omega arith
-next_new-le n (x ∷ xs) h =
-    let first = h x (or-left (eqb x x) _ (eq-eqb x x refl)) in
-    omega (arith, first, next_new-le n xs (λ i k. h i (or-right (eqb i x) _ k)))
-
-pub legal-none : (mill : Mill) → legal mill [] ≡ true
-legal-none mill = grind (arith, nat_tests)
 
 -- The canonical form.
 

@@ -12,15 +12,14 @@
 -- groups that none joins. The charges of all groups of a path add up to its dead loss and the
 -- charges of its live groups, and mates are charged alike. So the losses differ by the dead losses
 -- alone.
-use Rattle.std.proofs.Common.{ℕ, zero, suc, ◌+◌, ◌-◌, ◌<◌, ◌≤◌, ◌≡◌, ◌≢◌, max, eqb, leb, ltb, true}
-use Rattle.std.proofs.Common.{false, cond, List, [], ◌∷◌, ◌++◌, map, filter, length, drop, refl}
-use Rattle.std.proofs.Common.{sym, ap, ap₂, ◌∙◌, arith, inl, inr, subst, eq-eqb, eqb-true, ne_eqb}
+use Rattle.std.proofs.Common.{ℕ, suc, ◌+◌, ◌-◌, ◌<◌, ◌≤◌, ◌≡◌, ◌≢◌, max, eqb, leb, ltb, true}
+use Rattle.std.proofs.Common.{cond, List, [], ◌∷◌, ◌++◌, map, filter, length, drop, refl}
+use Rattle.std.proofs.Common.{sym, ap, ◌∙◌, arith, inl, inr, subst, eq-eqb, eqb-true, ne_eqb}
 use Rattle.std.proofs.Common.{le-leb, lt-ltb, le-ltb, leb-true, false-eqb, append-nil, length-drop}
 use Rattle.std.proofs.Common.{le_refl}
 use Rattle.std.proofs.lemmas.Bool.{cases_lt}
 use Rattle.std.proofs.lemmas.List.{length-map}
-use Rattle.std.specs.List.{list_all}
-use Rattle.mill_model.specs.Sets.{holds, below, total}
+use Rattle.list_laws.specs.Sets.{holds, below, total}
 use Rattle.mill_model.specs.Slab.{Mill, load, colours, legal}
 use Rattle.mill_model.specs.Plan.{slab, loss}
 use Rattle.mill_model.specs.Rank.{starts_class_in}
@@ -29,61 +28,28 @@ use Rattle.mill_model.specs.LiveKey.{has_live, LiveGroup, has_colour, seen_from,
 use Rattle.mill_model.specs.LiveKey.{live_groups, same_live_key, dead_loss}
 use Rattle.mill_model.specs.Log.{Task}
 use Rattle.mill_model.specs.declared.order.Order.{Order}
-use Rattle.mill_laws.proofs.Lists.{and-left, and-right, last-or-below, total-cong, next_new-append}
-use Rattle.mill_laws.proofs.Lists.{numbers-below, same_times-all}
-use Rattle.mill_laws.proofs.Different.{either, or-left, or-right, load-append, legal-less}
-use Rattle.mill_laws.proofs.Duality.{slab-append, slab-new}
-use Rattle.mill_laws.proofs.Canonical.{grows, by_last, only, total-add, total-by_last, by_last-map}
-use Rattle.mill_laws.proofs.Canonical.{slab-unused, slab-renamed, holds-map-from}
+use Rattle.list_laws.proofs.Tests.{and-left, and-right, either, or-left, or-right}
+use Rattle.list_laws.proofs.Sums.{total-cong}
+use Rattle.mill_laws.proofs.Groups.{next_new-append, numbers-below, slab-new}
+use Rattle.list_laws.proofs.Times.{same_times-all}
+use Rattle.mill_model.proofs.Slabs.{load-append, legal-less, slab-append, slab-unused, colours-swap}
+use Rattle.mill_model.proofs.Slabs.{joined-colours}
+use Rattle.mill_laws.proofs.Canonical.{grows, slab-renamed}
+use Rattle.list_laws.proofs.LastPlaces.{by_last, by_last-map}
+use Rattle.list_laws.proofs.Different.{holds-map-from, holds-filter, holds-unfilter, below-holds}
+use Rattle.list_laws.proofs.Different.{holds-below-lt}
 use Rattle.mill_laws.proofs.Settle.{settle, settle-chosen, settle-length, settle-next_new}
 use Rattle.mill_laws.proofs.Settle.{settle-grows, settle-rises, may-start, goes-from}
-use Rattle.mill_laws.proofs.Matching.{sum_of, AllApart, Mates, mates}
-use Rattle.mill_laws.proofs.Mated.{same_group-refl, same_group-eq, look, look-key, look-in}
-use Rattle.mill_laws.proofs.Mated.{look-apart, holds-filter, holds-unfilter, below-holds}
-use Rattle.mill_laws.proofs.Mated.{holds-below-lt, filter-apart, split-live, chosen-among}
-use Rattle.mill_laws.proofs.Mated.{map-among, colours-swap, joined-colours, live-from}
+use Rattle.list_laws.proofs.Matching.{sum_of, AllApart, Mates, mates, look, look-key, look-in}
+use Rattle.list_laws.proofs.Matching.{look-apart, filter-apart, split-live}
+use Rattle.mill_laws.proofs.Mated.{same_group-refl, same_group-eq, live-from}
+use Rattle.list_laws.proofs.Among.{chosen-among, map-among}
 use Rattle.mill_laws.proofs.Paths.{Word, goes-grows, grows-bound, tree-fits, tree-bound}
+use Rattle.list_laws.proofs.Sums.{total-beyond}
+use Rattle.list_laws.proofs.LastPlaces.{split-used}
+use Rattle.list_laws.proofs.Matching.{sum-keys}
 
 -- Sums over slabs.
-
--- of two functions that differ on the slabs of a plan alone
-pub split-used : (n : ℕ) (f g : ℕ → ℕ) (plan : List ℕ) →
-    ((s : ℕ) → holds s plan ≡ false → f s ≡ g s) → list_all (λ t. ltb t n) plan ≡ true →
-    total n f + by_last g plan ≡ by_last f plan + total n g
-split-used n f g plan same b =
-    omega (
-      arith,
-      total-by_last n g plan b,
-      total-by_last n f plan b,
-      total-add n f (only g plan),
-      total-add n (only f plan) g,
-      total-cong n (λ s. f s + only g plan s) (λ s. only f plan s + g s) (λ s l. at s),
-    )
-  where
-    at : (s : ℕ) → f s + only g plan s ≡ only f plan s + g s
-    at s = elim (either (holds s plan)) [
-      | inl h ↦ rw h
-      | inr h ↦ rw h (omega (arith, same s h))
-    ]
-
-pub total-beyond : (m n : ℕ) (f : ℕ → ℕ) → m ≤ n → ((s : ℕ) → m ≤ s → f s ≡ 0) →
-    total n f ≡ total m f
-total-beyond m zero f l h = let e : m ≡ 0 = omega arith in rw e
-total-beyond m (suc n) f l h = elim (last-or-below m (suc n) (omega arith)) [
-  | inl e ↦ rw e
-  | inr k ↦ omega (arith, total-beyond m n f (omega arith) h, h n (omega arith))
-]
-
--- of values that are told by keys
-pub sum-keys : {X : Type 0} (kx ky : ℕ → X) (value : X → ℕ) (xs zs : List ℕ) →
-    map kx xs ≡ map ky zs → sum_of (λ g. value (kx g)) xs ≡ sum_of (λ g. value (ky g)) zs
-sum-keys kx ky value [] [] e = refl
-sum-keys kx ky value [] (z ∷ zs) e = absurd (cc)
-sum-keys kx ky value (x ∷ xs) [] e = absurd (cc)
-sum-keys kx ky value (x ∷ xs) (z ∷ zs) e =
-    let head : kx x ≡ ky z = cc in
-    let tail : map kx xs ≡ map ky zs = cc in
-    ap₂ (λ a b. a + b) (ap value head) (sum-keys kx ky value xs zs tail)
 
 -- what the groups of a path lose: the dead ones and the live ones
 pub groups-loss : (mill : Mill) (charge : ℕ → ℕ) (ranked : List Order) (path : List ℕ) →

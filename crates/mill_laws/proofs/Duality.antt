@@ -4,36 +4,23 @@
 -- least the prices of T, since the prices are valid. The sums of these over all slabs are 60 times
 -- the loss and the worth.
 use Rattle.std.proofs.Common.{ℕ, zero, suc, ◌*◌, ◌<◌, ◌≤◌, ◌≡◌, eqb, ltb, int_le, Bool, true, List}
-use Rattle.std.proofs.Common.{[], ◌∷◌, ◌++◌, map, length, drop, ℤ, pos, ◌+ℤ◌, ◌≤ℤ◌, refl, sym, ap}
-use Rattle.std.proofs.Common.{◌∙◌, arith, inl, inr, ne_eqb}
+use Rattle.std.proofs.Common.{[], ◌++◌, map, length, ℤ, pos, ◌+ℤ◌, ◌≤ℤ◌, sym, ap}
+use Rattle.std.proofs.Common.{◌∙◌, arith, inl, inr}
 use Rattle.std.proofs.lemmas.Int.{ints}
 use Rattle.std.proofs.lemmas.List.{length-map}
 use Rattle.std.specs.List.{list_all}
-use Rattle.mill_model.specs.Sets.{chosen, sets, int_sum, int_total, total}
+use Rattle.list_laws.specs.Sets.{chosen, sets, int_sum, int_total, total}
 use Rattle.mill_model.specs.Slab.{Mill, load, legal}
 use Rattle.mill_model.specs.Plan.{slab, loss}
 use Rattle.mill_model.specs.Tree.{later_orders, next_new}
 use Rattle.mill_model.specs.Prices.{slack, legal_sets, valid, least_slack, worth}
 use Rattle.mill_model.specs.declared.order.Order.{Order}
-use Rattle.mill_laws.proofs.Lists.{Among, all-among, least-among, among-sets, Among-map}
-use Rattle.mill_laws.proofs.Lists.{Among-filter, map-append, chosen-append, total-cong, sum-parts}
-use Rattle.mill_laws.proofs.Lists.{last-or-below}
-
--- The orders of a slab are those of a path and those of what follows.
-pub slab-append : (s : ℕ) (path more : List ℕ) (ranked : List Order) →
-    slab s (path ++ more) ranked ≡ slab s path ranked ++ slab s more (later_orders ranked path)
-slab-append s path more ranked =
-    ap (λ marks. chosen marks ranked) (map-append (λ t. eqb s t) path more)
-    ∙ chosen-append (map (λ t. eqb s t) path) (map (λ t. eqb s t) more) ranked
-    ∙ ap (λ k. slab s path ranked ++ slab s more (drop k ranked)) (length-map path (λ t. eqb s t))
-
--- A number that a path does not have yet has no orders.
-pub slab-new : (s : ℕ) (path : List ℕ) (ranked : List Order) → next_new path ≤ s →
-    slab s path ranked ≡ []
-slab-new s [] ranked h = refl
-slab-new s (g ∷ path) [] h = refl
-slab-new s (g ∷ path) (order ∷ ranked) h =
-    rw (ne_eqb s g (omega arith)) (slab-new s path ranked (omega arith))
+use Rattle.list_laws.proofs.Among.{Among, all-among, among-sets, Among-map, Among-filter}
+use Rattle.mill_laws.proofs.Least.{least-among}
+use Rattle.list_laws.proofs.Sums.{total-cong, sum-parts}
+use Rattle.list_laws.proofs.Tests.{last-or-below}
+use Rattle.mill_laws.proofs.Groups.{slab-new}
+use Rattle.mill_model.proofs.Slabs.{slab-append}
 
 module _ (mill : Mill) (charge : ℕ → ℕ) (group rest : List Order) (prices : List ℤ)
     (set : List Bool) where

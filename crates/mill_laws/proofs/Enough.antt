@@ -3,11 +3,11 @@
 use Rattle.std.proofs.Common.{ℕ, zero, suc, ◌+◌, ◌*◌, ◌≤◌, ◌≡◌, Bool, true, cond, List, [], ◌∷◌}
 use Rattle.std.proofs.Common.{◌++◌, map, filter, length, refl, arith, inl, inr, subst}
 use Rattle.std.proofs.Common.{length-append, mul-le-mul_right}
-use Rattle.mill_model.specs.Sets.{below}
+use Rattle.list_laws.specs.Sets.{below}
 use Rattle.mill_model.specs.Tree.{next_new, may_go_on, children, goes_on}
 use Rattle.mill_model.specs.Log.{Task}
 use Rattle.mill_model.specs.Size.{size, sum_list, factorial, enough}
-use Rattle.mill_laws.proofs.Different.{either}
+use Rattle.list_laws.proofs.Tests.{either}
 use Rattle.mill_laws.proofs.Paths.{goes-grows, goes-append, grows-bound}
 
 -- the most paths from one of k numbers on, down to d numbers more

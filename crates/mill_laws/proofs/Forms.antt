@@ -1,14 +1,19 @@
 -- Numbers that grow are their own canonical form: each new slab has the next number already.
 use Rattle.std.proofs.Common.{ℕ, suc, ◌<◌, ◌≤◌, ◌≡◌, ◌⊎◌, max, eqb, leb, true, false, List, [], ◌∷◌}
-use Rattle.std.proofs.Common.{◌++◌, map, refl, ap₂, arith, inl, inr, eq-eqb, eqb-true, leb-true}
+use Rattle.std.proofs.Common.{◌++◌, refl, arith, inl, inr, eqb-true, leb-true}
 use Rattle.std.proofs.Common.{append_assoc, append-nil}
 use Rattle.std.proofs.lemmas.Bool.Decides.{nat_tests}
 use Rattle.std.proofs.lemmas.Bool.{cases_lt}
-use Rattle.mill_model.specs.Sets.{holds, different}
+use Rattle.list_laws.specs.Sets.{holds, different}
 use Rattle.mill_model.specs.Tree.{next_new, canonical}
-use Rattle.mill_laws.proofs.Lists.{and-left, and-right, next_new-append}
-use Rattle.mill_laws.proofs.Different.{either, or-left, or-right, holds-append}
-use Rattle.mill_laws.proofs.Canonical.{grows, place, different-push, before-old, before-new}
+use Rattle.list_laws.proofs.Tests.{and-left, and-right, either}
+use Rattle.list_laws.proofs.Different.{different-push}
+use Rattle.mill_laws.proofs.Canonical.{grows, place}
+use Rattle.mill_model.proofs.FirstPlaces.{before-old, before-new}
+use Rattle.mill_laws.proofs.Groups.{next_new-push}
+use Rattle.list_laws.proofs.Lists.{map-same}
+use Rattle.list_laws.proofs.Different.{holds-push}
+use Rattle.list_laws.proofs.Different.{push-holds}
 
 -- The front of a plan that is its own canonical form: its numbers are all those below the next new
 -- one, and each stands at its place.
@@ -18,28 +23,13 @@ pub record Proper (pre : List ℕ) : Type 0 where
   pub all : (x : ℕ) → x < next_new pre → holds x pre ≡ true
   pub placed : (x : ℕ) → holds x pre ≡ true → place pre x ≡ x
 
-pub holds-push : (x s : ℕ) (pre : List ℕ) → holds x (pre ++ s ∷ []) ≡ true →
-    (holds x pre ≡ true) ⊎ (x ≡ s)
-holds-push x s pre h = elim (either (holds x pre)) [
-  | inl i ↦ inl i
-  | inr i ↦ inr (eqb-true x s (grind (arith, holds-append x pre (s ∷ []))))
-]
-
-pub push-holds : (x s : ℕ) (pre : List ℕ) → (holds x pre ≡ true) ⊎ (x ≡ s) →
-    holds x (pre ++ s ∷ []) ≡ true
-push-holds x s pre h = grind (arith, nat_tests, holds-append x pre (s ∷ []))
-
-pub next_new-push : (s : ℕ) (pre : List ℕ) →
-    next_new (pre ++ s ∷ []) ≡ max (next_new pre) (suc s)
-next_new-push s pre = omega (arith, next_new-append pre (s ∷ []))
-
 pub proper-push : (s : ℕ) (pre : List ℕ) → s ≤ next_new pre → Proper pre → Proper (pre ++ s ∷ [])
 proper-push s pre l p = record {
   full = elim (either (holds s pre)) [
     | inl h ↦ old (p.bound s h) (rw h at (different-push s pre))
     | inr h ↦ new (next h) (rw h at (different-push s pre))
   ];
-  bound = λ x h. elim (holds-push x s pre h) [
+  bound = λ x h. elim (holds-push pre x s h) [
     | inl i ↦ omega (arith, n, p.bound x i)
     | inr q ↦ omega (arith, n)
   ];
@@ -49,7 +39,7 @@ proper-push s pre l p = record {
   ]);
   placed = λ x h. elim (either (holds x pre)) [
     | inl i ↦ rw (before-old x pre (s ∷ []) i) (p.placed x i)
-    | inr i ↦ last x i (holds-push x s pre h)
+    | inr i ↦ last x i (holds-push pre x s h)
   ];
 }
   where
@@ -86,12 +76,6 @@ proper-all pre (s ∷ post) p h =
     omega (arith, next_new-push s pre) in
     rw (append_assoc pre (s ∷ []) post) at (proper-all (pre ++ s ∷ []) post
     (proper-push s pre l p) (rw next (and-right (leb s (next_new pre)) _ h)))
-
-map-same : (f : ℕ → ℕ) (xs : List ℕ) → ((x : ℕ) → holds x xs ≡ true → f x ≡ x) → map f xs ≡ xs
-map-same f [] h = refl
-map-same f (x ∷ xs) h =
-    ap₂ (λ a b. a ∷ b) (h x (or-left (eqb x x) _ (eq-eqb x x refl)))
-    (map-same f xs (λ y i. h y (or-right (eqb y x) _ i)))
 
 pub canonical-same : (word : List ℕ) → grows 0 word ≡ true → canonical word ≡ word
 canonical-same word h = map-same (place word) word (proper-all [] word nothing h).placed

@@ -10,12 +10,12 @@
 -- The empty path is recorded, as the log is complete.
 use Rattle.std.proofs.Common.{ℕ, zero, suc, ◌+◌, ◌*◌, ◌<◌, ◌≤◌, ◌≡◌, ◌⊎◌, max, eqb, int_lt, Bool}
 use Rattle.std.proofs.Common.{true, false, ◌&&◌, ◌||◌, not, List, [], ◌∷◌, ◌++◌, length, ℤ, pos}
-use Rattle.std.proofs.Common.{◌-ℤ◌, ◌*ℤ◌, ◌≤ℤ◌, refl, sym, ap₂, ◌∙◌, arith, inl, inr, subst}
-use Rattle.std.proofs.Common.{eqb-true, eq-eqb, leb-true, ltb-true, length-drop, append_assoc}
+use Rattle.std.proofs.Common.{◌-ℤ◌, ◌*ℤ◌, ◌≤ℤ◌, refl, sym, ◌∙◌, arith, inl, inr, subst}
+use Rattle.std.proofs.Common.{eqb-true, leb-true, ltb-true, length-drop, append_assoc}
 use Rattle.std.proofs.Common.{append-nil}
 use Rattle.std.proofs.lemmas.Int.{ints}
 use Rattle.std.specs.List.{AllByRecursion}
-use Rattle.mill_model.specs.Sets.{same_list}
+use Rattle.list_laws.specs.Sets.{same_list}
 use Rattle.mill_model.specs.Plan.{loss}
 use Rattle.mill_model.specs.Rank.{starts_class_in}
 use Rattle.mill_model.specs.Tree.{later_orders, next_new, in_tree}
@@ -27,24 +27,15 @@ use Rattle.mill_model.specs.declared.order.Order.{Order}
 use Rattle.mill_model.specs.declared.closing.Entry.{Entry}
 use Rattle.mill_model.specs.declared.closing.Closing.{Closing}
 use Rattle.mill_model.specs.declared.closing.Closing.TheVariants.{Split, Leaf, Priced, Dominated}
-use Rattle.mill_laws.proofs.Lists.{times-pos, times-among, next_new-append, numbers-below, and-left}
-use Rattle.mill_laws.proofs.Lists.{and-right, Among, Among-append_left, Among-append_right}
+use Rattle.list_laws.proofs.Times.{times-pos, times-among}
+use Rattle.mill_laws.proofs.Groups.{next_new-append, numbers-below}
+use Rattle.list_laws.proofs.Tests.{and-left, and-right}
+use Rattle.list_laws.proofs.Among.{Among, Among-append_left, Among-append_right}
 use Rattle.mill_laws.proofs.Duality.{weak-duality}
 use Rattle.mill_laws.proofs.Paths.{Word, step-word, first-child}
+use Rattle.list_laws.proofs.Times.{same_list-eq, same_list-refl}
 
 -- The test of lists of numbers is right.
-
-pub same_list-refl : (xs : List ℕ) → same_list xs xs ≡ true
-same_list-refl [] = refl
-same_list-refl (x ∷ xs) = rw (eq-eqb x x refl) (same_list-refl xs)
-
-pub same_list-eq : (xs ys : List ℕ) → same_list xs ys ≡ true → xs ≡ ys
-same_list-eq [] [] h = refl
-same_list-eq [] (y ∷ ys) h = grind arith
-same_list-eq (x ∷ xs) [] h = grind arith
-same_list-eq (x ∷ xs) (y ∷ ys) h =
-    ap₂ (λ a b. a ∷ b) (eqb-true x y (and-left (eqb x y) (same_list xs ys) h))
-    (same_list-eq xs ys (and-right (eqb x y) (same_list xs ys) h))
 
 -- A path with its record.
 

@@ -6,8 +6,20 @@ use Rattle.std.proofs.lemmas.Int.{ints}
 use Rattle.std.specs.Int.{int_min}
 use Rattle.mill_model.specs.Prices.{least}
 use Rattle.mill_model.specs.Bounds.{least_of, or_zero}
-use Rattle.mill_laws.proofs.Lists.{Among, least-first, least-among}
-use Rattle.mill_laws.proofs.Different.{either}
+use Rattle.list_laws.proofs.Among.{Among}
+use Rattle.list_laws.proofs.Tests.{either}
+
+pub least-first : (a : ℤ) (xs : List ℤ) → least a xs ≤ℤ a
+least-first a [] = omega (arith, ints)
+least-first a (x ∷ xs) = grind (arith, ints, least-first a xs)
+
+pub least-among : (a x : ℤ) (xs : List ℤ) → Among x xs → least a xs ≤ℤ x
+least-among a x [] h = absurd h
+least-among a x (z ∷ xs) (inl e) = rw e (left z (least a xs))
+  where
+    left : (x y : ℤ) → int_min x y ≤ℤ x
+    left x y = grind (arith, ints)
+least-among a x (z ∷ xs) (inr h) = grind (arith, ints, least-among a x xs h)
 
 pub least-glb : (v a : ℤ) (xs : List ℤ) → v ≤ℤ a → ((x : ℤ) → Among x xs → v ≤ℤ x) → v ≤ℤ least a xs
 least-glb v a [] h k = h

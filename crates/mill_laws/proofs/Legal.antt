@@ -1,20 +1,16 @@
 -- What it is for a plan to be legal, number by number.
-use Rattle.std.proofs.Common.{ℕ, ◌<◌, ◌≤◌, ◌≡◌, true, List, [], ◌∷◌, length, eqb, ltb, arith}
+use Rattle.std.proofs.Common.{ℕ, ◌≤◌, ◌≡◌, true, List, length, eqb, ltb}
 use Rattle.std.proofs.Common.{eq-eqb, eqb-true}
-use Rattle.std.proofs.lemmas.Bool.Decides.{nat_tests}
 use Rattle.std.specs.List.{list_all}
-use Rattle.mill_model.specs.Sets.{holds}
+use Rattle.list_laws.specs.Sets.{holds}
 use Rattle.mill_model.specs.Slab.{Mill, legal}
 use Rattle.mill_model.specs.Plan.{slab, IsLegalPlan}
 use Rattle.mill_model.specs.Tree.{next_new}
 use Rattle.mill_model.specs.declared.order.Order.{Order}
-use Rattle.mill_laws.proofs.Lists.{and-left, and-right, each_below-at, each_below-from}
-use Rattle.mill_laws.proofs.Lists.{numbers-below}
-
-pub holds-below : (n s : ℕ) (plan : List ℕ) → list_all (λ t. ltb t n) plan ≡ true →
-    holds s plan ≡ true → s < n
-holds-below n s [] h k = absurd (grind arith)
-holds-below n s (t ∷ plan) h k = grind (arith, nat_tests, holds-below n s plan)
+use Rattle.list_laws.proofs.Tests.{and-left, and-right}
+use Rattle.list_laws.proofs.Sums.{each_below-at, each_below-from}
+use Rattle.mill_laws.proofs.Groups.{numbers-below}
+use Rattle.list_laws.proofs.Different.{holds-below}
 
 module _ (mill : Mill) (orders : List Order) (plan : List ℕ)
     (is_legal : IsLegalPlan mill orders plan) where

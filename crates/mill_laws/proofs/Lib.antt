@@ -1,5 +1,4 @@
-pub mod Lists
-pub mod Different
+pub mod Groups
 pub mod Canonical
 pub mod Forms
 pub mod Legal
@@ -17,7 +16,7 @@ pub mod Slacks
 pub mod Ascent
 pub mod Sweep
 pub mod PriceLaws
-pub mod Matching
+pub mod PricesWithin
 pub mod Mated
 pub mod Carry
 pub mod Law

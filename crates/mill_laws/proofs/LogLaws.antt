@@ -6,13 +6,15 @@ use Rattle.mill_model.specs.Plan.{loss, IsLegalPlan}
 use Rattle.mill_model.specs.Rank.{ranked_orders, plan_in_rank}
 use Rattle.mill_model.specs.Log.{Task, sound, Refutes}
 use Rattle.mill_model.specs.declared.closing.Entry.{Entry}
-use Rattle.mill_laws.specs.LogLaws.{task_of, RefutedLossBounds, LesserLossIsRefuted, RecordedOnce}
+use Rattle.mill_model.specs.Log.{task_of_orders}
+use Rattle.mill_laws.specs.LogLaws.{RefutedLossBounds, LesserLossIsRefuted, RecordedOnce}
 use Rattle.mill_laws.proofs.Law.{Dominates, words-law}
 use Rattle.mill_laws.proofs.Paths.{Word}
 use Rattle.mill_laws.proofs.Twin.{twin, twin-word, twin-loss}
 use Rattle.mill_laws.proofs.Carry.{settled, settled-word, settled-loss}
 use Rattle.mill_laws.proofs.Ranked.{ranked-loss, ranked-legal, ranked-each}
-use Rattle.mill_laws.proofs.Merged.{each-weaker, sound-less}
+use Rattle.mill_laws.proofs.Merged.{sound-less}
+use Rattle.list_laws.proofs.Among.{each-weaker}
 use Rattle.mill_laws.proofs.Once.{once-recorded}
 
 -- a word is carried to a path that dominates
@@ -45,7 +47,7 @@ refuted-loss-bounds mill charge orders bound log z r plan l =
     } in
     omega (
       arith,
-      ranked-law (task_of mill charge orders) bound log z r (plan_in_rank orders plan) in-rank,
+      ranked-law (task_of_orders mill charge orders) bound log z r (plan_in_rank orders plan) in-rank,
       ranked-loss orders plan l.each charge,
     )
 

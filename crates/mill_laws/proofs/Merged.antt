@@ -12,8 +12,9 @@ use Rattle.mill_model.specs.Conserved.{joined, IsConserved}
 use Rattle.mill_model.specs.declared.closing.Entry.{Entry}
 use Rattle.mill_model.specs.declared.closing.Closing.{Closing}
 use Rattle.mill_model.specs.declared.closing.Closing.TheVariants.{Split, Leaf, Priced, Dominated}
-use Rattle.mill_laws.proofs.Lists.{and-left, and-right}
-use Rattle.mill_laws.proofs.Different.{or-left, or-right}
+use Rattle.list_laws.proofs.Tests.{and-left, and-right, or-left, or-right}
+use Rattle.list_laws.proofs.Among.{each-append}
+use Rattle.list_laws.proofs.Among.{each-weaker}
 
 -- A record that is sound for a loss is sound for a lesser one.
 pub sound-less : (task : Task) (more less : ℕ) (path : List ℕ) (c : Closing) → less ≤ more →
@@ -55,16 +56,6 @@ names-right xs ys (Dominated other) h =
     rw (settled-append xs ys other) (or-right (is_settled xs other) (is_settled ys other) h)
 
 -- What holds of each record of each piece.
-
-pub each-weaker : {X : Type 0} (P Q : X → Type 0) (xs : List X) → ((x : X) → P x → Q x) →
-    AllByRecursion P xs → AllByRecursion Q xs
-each-weaker P Q [] f h = h
-each-weaker P Q (x ∷ xs) f h = (f x h.0, each-weaker P Q xs f h.1)
-
-pub each-append : {X : Type 0} (P : X → Type 0) (xs ys : List X) → AllByRecursion P xs →
-    AllByRecursion P ys → AllByRecursion P (xs ++ ys)
-each-append P [] ys h k = k
-each-append P (x ∷ xs) ys h k = (h.0, each-append P xs ys h.1 k)
 
 pub each-joined : (P : Entry → Type 0) (pieces : List (List Entry)) →
     AllByRecursion (λ piece. AllByRecursion P piece) pieces → AllByRecursion P (joined pieces)

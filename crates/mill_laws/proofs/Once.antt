@@ -1,10 +1,9 @@
 -- Where the recorded and the unclosed paths are the empty path and the children of the split ones,
 -- no path is among them twice: a child tells its parent and its last number, so it is wanted at
 -- most as often as its parent is recorded, and the empty path is nobody's child.
-use Rattle.std.proofs.Common.{ℕ, zero, suc, ◌<◌, ◌≤◌, ◌≡◌, eqb, Bool, cond, ◌&&◌, List, [], ◌∷◌}
+use Rattle.std.proofs.Common.{ℕ, zero, suc, ◌<◌, ◌≤◌, ◌≡◌, eqb, cond, List, [], ◌∷◌}
 use Rattle.std.proofs.Common.{◌++◌, map, filter, length, refl, ap, arith, length-append, append-nil}
-use Rattle.std.proofs.lemmas.Bool.Decides.{nat_tests}
-use Rattle.mill_model.specs.Sets.{same_list, below, times, SameTimes}
+use Rattle.list_laws.specs.Sets.{same_list, below, times, SameTimes}
 use Rattle.mill_model.specs.Slab.{Mill}
 use Rattle.mill_model.specs.Tree.{next_new, may_go_on, children}
 use Rattle.mill_model.specs.Log.{Task, recorded, left_open, split_children, IsComplete}
@@ -12,40 +11,15 @@ use Rattle.mill_model.specs.declared.order.Order.{Order}
 use Rattle.mill_model.specs.declared.closing.Entry.{Entry}
 use Rattle.mill_model.specs.declared.closing.Closing.{Closing}
 use Rattle.mill_model.specs.declared.closing.Closing.TheVariants.{Split, Leaf, Priced, Dominated}
-use Rattle.mill_laws.proofs.Lists.{times-append}
-
--- a child tells its parent and its last number
-pub same-child : (p e : List ℕ) (g h : ℕ) →
-    same_list (p ++ g ∷ []) (e ++ h ∷ []) ≡ (same_list p e && eqb g h)
-same-child [] [] g h = grind arith
-same-child [] (y ∷ []) g h = grind arith
-same-child [] (y ∷ z ∷ e) g h = grind arith
-same-child (x ∷ []) [] g h = grind arith
-same-child (x ∷ z ∷ p) [] g h = grind arith
-same-child (x ∷ p) (y ∷ e) g h = grind (arith, same-child p e g h)
+use Rattle.list_laws.proofs.Times.{times-append}
+use Rattle.list_laws.proofs.Times.{same-child, times-filter}
+use Rattle.list_laws.proofs.Times.{times-below}
 
 pub times-pushed : (p e : List ℕ) (g : ℕ) (hs : List ℕ) →
     times same_list (p ++ g ∷ []) (map (λ h. e ++ h ∷ []) hs)
     ≡ cond (same_list p e) (times eqb g hs) 0
 times-pushed p e g [] = grind arith
 times-pushed p e g (h ∷ hs) = grind (arith, times-pushed p e g hs, same-child p e g h)
-
--- a number stands at most once among those below n that pass a test
-pub times-filter : (g : ℕ) (test : ℕ → Bool) (hs : List ℕ) →
-    times eqb g (filter test hs) ≤ times eqb g hs
-times-filter g test [] = omega arith
-times-filter g test (h ∷ hs) = grind (arith, times-filter g test hs)
-
-pub times-beyond : (g n : ℕ) → n ≤ g → times eqb g (below n) ≡ 0
-times-beyond g zero l = refl
-times-beyond g (suc n) l =
-    grind (arith, nat_tests, times-beyond g n, times-append eqb g (below n) (n ∷ []))
-
-pub times-below : (g n : ℕ) → times eqb g (below n) ≤ 1
-times-below g zero = omega arith
-times-below g (suc n) =
-    let last = times-append eqb g (below n) (n ∷ []) in
-    grind (arith, nat_tests, times-below g n, times-beyond g n, last)
 
 -- A path is wanted as often as it stands among the children of split paths: a child at most as
 -- often as its parent is recorded, and the empty path never.
@@ -149,18 +123,3 @@ pub once-recorded : (task : Task) (log : List Entry) → IsComplete task log →
 once-recorded task log h path =
     rw append-nil at (conserved-once task log [] (λ p. rw append-nil (h p)) (length path) path
     (omega arith))
-
--- Of a log that records no path twice: it is complete where it misses no path and none is stray.
-pub complete-from : (task : Task) (log : List Entry) →
-    ((path : List ℕ) → times same_list path (recorded log) ≤ 1) →
-    ((path : List ℕ) → 0 < times same_list path ([] ∷ split_children task log) →
-    0 < times same_list path (recorded log)) →
-    ((path : List ℕ) → 0 < times same_list path (recorded log) →
-    0 < times same_list path ([] ∷ split_children task log)) → IsComplete task log
-complete-from task log once missing stray path =
-    equal (times same_list path (recorded log)) (times same_list path
-    ([] ∷ split_children task log)) (once path) (wanted-once task log once path) (missing path)
-    (stray path)
-  where
-    equal : (a b : ℕ) → a ≤ 1 → b ≤ 1 → (0 < b → 0 < a) → (0 < a → 0 < b) → a ≡ b
-    equal a b x y f g = grind arith

@@ -1,34 +1,51 @@
 -- What the paths of the tree keep, and the words that lead from a path to a leaf.
 use Rattle.std.proofs.Common.{ℕ, suc, ◌+◌, ◌≤◌, ◌≡◌, max, eqb, leb, true, false, ◌&&◌, List, []}
 use Rattle.std.proofs.Common.{◌∷◌, ◌++◌, filter, length, refl, arith, inl, inr, eqb-true, leb-true}
-use Rattle.std.proofs.Common.{append_assoc, append-nil, length-append, le-leb}
-use Rattle.mill_model.specs.Sets.{holds, below}
+use Rattle.std.proofs.Common.{append_assoc, append-nil, length-append, le-leb, ltb, ltb-true, ◌<◌, Bool}
+use Rattle.list_laws.specs.Sets.{holds, below}
 use Rattle.mill_model.specs.Slab.{Mill, legal}
 use Rattle.mill_model.specs.Plan.{slab}
 use Rattle.mill_model.specs.Tree.{later_orders, next_new, may_go_on, children, goes_on, in_tree}
 use Rattle.mill_model.specs.Log.{Task}
 use Rattle.mill_model.specs.declared.order.Order.{Order}
-use Rattle.mill_laws.proofs.Lists.{and-left, and-right, next_new-append, Among, Among-map}
-use Rattle.mill_laws.proofs.Lists.{Among-filter, among-below}
-use Rattle.mill_laws.proofs.Different.{either}
-use Rattle.mill_laws.proofs.Duality.{slab-append}
-use Rattle.mill_laws.proofs.Canonical.{grows, slab-unused, legal-none}
+use Rattle.list_laws.proofs.Tests.{and-left, and-right, either}
+use Rattle.mill_laws.proofs.Groups.{next_new-append}
+use Rattle.list_laws.proofs.Among.{Among, Among-map, Among-filter, among-below}
+use Rattle.mill_model.proofs.Slabs.{slab-append, slab-unused, legal-none}
+use Rattle.mill_laws.proofs.Canonical.{grows}
+use Rattle.list_laws.proofs.Lists.{length-push}
 
 -- One number that a path may go on with.
 
 module _ (mill : Mill) (ranked : List Order) (path : List ℕ) (g : ℕ)
     (may : may_go_on mill ranked path g ≡ true) where
+  abbrev to_come : Bool
+  to_come = ltb (length path) (length ranked)
+
+  abbrev is_next : Bool
+  is_next = leb g (next_new path)
+
+  abbrev stays_legal : Bool
+  stays_legal = legal mill (slab g (path ++ g ∷ []) ranked)
+
+  first-two : (to_come && is_next) ≡ true
+  first-two =
+      and-left (to_come && is_next) stays_legal
+      (and-left ((to_come && is_next) && stays_legal) _ may)
+
+  -- an order is still to come
+  pub may-place : length path < length ranked
+  may-place = ltb-true (length path) (length ranked) (and-left to_come is_next first-two)
+
   -- it is the number of a group or the next new one
   pub may-next : g ≤ next_new path
-  may-next =
-      leb-true g (next_new path) (and-left (leb g (next_new path)) _
-      (and-left (leb g (next_new path) && legal mill (slab g (path ++ g ∷ []) ranked)) _ may))
+  may-next = leb-true g (next_new path) (and-right to_come is_next first-two)
 
   -- its group stays legal
   pub may-fits : legal mill (slab g (path ++ g ∷ []) ranked) ≡ true
   may-fits =
-      and-right (leb g (next_new path)) _
-      (and-left (leb g (next_new path) && legal mill (slab g (path ++ g ∷ []) ranked)) _ may)
+      and-right (to_come && is_next) stays_legal
+      (and-left ((to_come && is_next) && stays_legal) _ may)
 
 -- Numbers that a path goes on with, one after another.
 
@@ -85,9 +102,24 @@ module _ (mill : Mill) (ranked : List Order) where
   -- the slabs of a path of the tree are legal
   pub tree-fits : (path : List ℕ) → in_tree mill ranked path ≡ true → (s : ℕ) →
       legal mill (slab s path ranked) ≡ true
-  tree-fits path h s =
-      goes-fits [] path (λ t. legal-none mill)
-      (and-right (leb (length path) (length ranked)) _ h) s
+  tree-fits path h s = goes-fits [] path (λ t. legal-none mill) h s
+
+  -- no more numbers than orders
+  pub goes-length : (path more : List ℕ) → goes_on mill ranked path more ≡ true →
+      length path ≤ length ranked → length path + length more ≤ length ranked
+  goes-length path [] h l = omega arith
+  goes-length path (g ∷ more) h l =
+      let here = may-place mill ranked path g (goes-first path g more h) in
+      omega (
+        arith,
+        length-push path g,
+        goes-length (path ++ g ∷ []) more (goes-later path g more h)
+            (omega (arith, length-push path g)),
+      )
+
+  pub tree-length : (path : List ℕ) → in_tree mill ranked path ≡ true →
+      length path ≤ length ranked
+  tree-length path h = omega (arith, goes-length [] path h (omega arith))
 
 -- there are no more groups than orders
 pub grows-bound : (m : ℕ) (more : List ℕ) → grows m more ≡ true →
@@ -105,8 +137,7 @@ pub tree-bound : (mill : Mill) (ranked : List Order) (path : List ℕ) →
 tree-bound mill ranked path h =
     omega (
       arith,
-      grows-bound 0 path (goes-grows mill ranked [] path
-          (and-right (leb (length path) (length ranked)) _ h)),
+      grows-bound 0 path (goes-grows mill ranked [] path h),
     )
 
 -- Words: numbers that go on from a path to a leaf, whose slabs are legal.

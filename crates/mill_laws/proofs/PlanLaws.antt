@@ -4,7 +4,7 @@ use Rattle.std.proofs.Common.{refl, ap, ◌∙◌, arith, inl, inr, length-appen
 use Rattle.std.proofs.lemmas.Bool.Decides.{nat_tests}
 use Rattle.std.proofs.lemmas.List.{length-map}
 use Rattle.std.proofs.lemmas.List.Elements.{recursion_from_All}
-use Rattle.mill_model.specs.Sets.{holds, below, times}
+use Rattle.list_laws.specs.Sets.{holds, below, times}
 use Rattle.mill_model.specs.Slab.{Mill, legal}
 use Rattle.mill_model.specs.Plan.{slab}
 use Rattle.mill_model.specs.Tree.{canonical}
@@ -12,14 +12,16 @@ use Rattle.mill_model.specs.declared.order.Order.{Order}
 use Rattle.mill_laws.specs.PlanLaws.{CanonicalFormIsLegal, CanonicalFormLosesTheSame}
 use Rattle.mill_laws.specs.PlanLaws.{CanonicalFormIsItsOwn, PlanInRankIsLegal}
 use Rattle.mill_laws.specs.PlanLaws.{PlanInRankLosesTheSame, EachAloneIsLegal}
-use Rattle.mill_laws.proofs.Lists.{Among, each-at}
-use Rattle.mill_laws.proofs.Different.{either}
+use Rattle.list_laws.proofs.Among.{Among, each-at}
+use Rattle.list_laws.proofs.Tests.{either}
 use Rattle.mill_laws.proofs.Canonical.{canonical-grows, canonical-fits, canonical-loss}
-use Rattle.mill_laws.proofs.Canonical.{canonical-numbers, next_new-le, slab-unused, legal-none}
+use Rattle.mill_laws.proofs.Canonical.{canonical-numbers}
+use Rattle.mill_laws.proofs.Groups.{next_new-le}
+use Rattle.mill_model.proofs.Slabs.{slab-unused, legal-none}
 use Rattle.mill_laws.proofs.Forms.{canonical-same}
 use Rattle.mill_laws.proofs.Legal.{plan-long, plan-range, plan-fits, legal-from}
-use Rattle.mill_laws.proofs.Mated.{holds-below-lt}
-use Rattle.mill_laws.proofs.Once.{times-below}
+use Rattle.list_laws.proofs.Different.{holds-below-lt}
+use Rattle.list_laws.proofs.Times.{times-below}
 use Rattle.mill_laws.proofs.Ranked.{ranked-each, ranked-legal, unranked-legal, ranked-loss}
 
 -- Canonical forms.

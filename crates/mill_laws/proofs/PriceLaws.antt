@@ -1,6 +1,6 @@
 -- The laws of prices.
 use Rattle.std.proofs.Common.{ℕ, ◌+◌, ◌<◌, ◌≤◌, ◌≡◌, max, true, Bool, List, [], ◌++◌, length, take}
-use Rattle.std.proofs.Common.{drop, leb, ℤ, sym, ap, ◌∙◌, arith, leb-true, length-drop}
+use Rattle.std.proofs.Common.{drop, ℤ, sym, ap, ◌∙◌, arith, length-drop}
 use Rattle.std.proofs.Common.{length-append}
 use Rattle.std.proofs.lemmas.List.{take-append-drop, length-map}
 use Rattle.std.proofs.lemmas.List.Elements.{All-drop}
@@ -12,14 +12,14 @@ use Rattle.mill_model.specs.declared.order.Order.{Order}
 use Rattle.mill_laws.specs.PriceLaws.{AreValidAt, WeakDuality, SweptPricesAreValid}
 use Rattle.mill_laws.specs.PriceLaws.{SweptPricesAreWorthNoLess, AscentPricesAreValid}
 use Rattle.mill_laws.specs.PriceLaws.{AscentWorthIsTheirs}
-use Rattle.mill_laws.proofs.Lists.{Among, and-left, next_new-append, numbers-below}
+use Rattle.list_laws.proofs.Among.{Among}
+use Rattle.mill_laws.proofs.Groups.{next_new-append, numbers-below, next_new-le}
 use Rattle.mill_laws.proofs.Ascent.{ascent-length, ascent-valid, ascent-worth}
 use Rattle.mill_laws.proofs.Canonical.{canonical-fits, canonical-loss, canonical-numbers}
-use Rattle.mill_laws.proofs.Canonical.{next_new-le}
 use Rattle.mill_laws.proofs.Duality.{weak-duality}
-use Rattle.mill_laws.proofs.Law.{same_list-eq}
+use Rattle.list_laws.proofs.Times.{same_list-eq}
 use Rattle.mill_laws.proofs.Legal.{plan-long, plan-range, plan-fits}
-use Rattle.mill_laws.proofs.Paths.{tree-fits}
+use Rattle.mill_laws.proofs.Paths.{tree-fits, tree-length}
 use Rattle.mill_laws.proofs.Slacks.{alone}
 use Rattle.mill_laws.proofs.Sweep.{sweep-length, sweep-valid, sweep-worth}
 
@@ -85,7 +85,7 @@ ascent-prices-are-valid mill charge ranked path t = record {
         arith,
         ascent-length mill charge ranked path (length (later_orders ranked path)),
         length-drop (length path) ranked,
-        leb-true _ _ (and-left (leb (length path) (length ranked)) _ t),
+        tree-length mill ranked path t,
       );
   are_valid = ascent-valid mill charge ranked path (tree-fits mill ranked path t);
 }

@@ -8,16 +8,17 @@ use Rattle.std.proofs.Math.Seq.{drop-cons}
 use Rattle.std.proofs.lemmas.Bool.Decides.{nat_tests}
 use Rattle.std.proofs.lemmas.List.{length-map}
 use Rattle.std.specs.List.{list_all}
-use Rattle.mill_model.specs.Sets.{holds}
+use Rattle.list_laws.specs.Sets.{holds}
 use Rattle.mill_model.specs.Slab.{Mill, load, colours, legal}
 use Rattle.mill_model.specs.Plan.{slab, loss, numbers_each, legal_plan}
 use Rattle.mill_model.specs.Rank.{Placed, is_before, put_in_rank, rank_from, rank, ranked_orders}
 use Rattle.mill_model.specs.Rank.{plan_in_rank}
 use Rattle.mill_model.specs.declared.order.Order.{Order}
-use Rattle.mill_laws.proofs.Lists.{and-left, and-right, total-cong, each_below-at, all-map}
-use Rattle.mill_laws.proofs.Lists.{each_below-from}
-use Rattle.mill_laws.proofs.Different.{either, different-same}
-use Rattle.mill_laws.proofs.Mated.{colours_of}
+use Rattle.list_laws.proofs.Tests.{and-left, and-right, either}
+use Rattle.list_laws.proofs.Sums.{total-cong, each_below-at, each_below-from}
+use Rattle.list_laws.proofs.Among.{all-map}
+use Rattle.list_laws.proofs.Different.{different-same}
+use Rattle.mill_model.proofs.Slabs.{colours_of}
 
 pub put-length : (p : Placed) (placed : List Placed) →
     length (put_in_rank p placed) ≡ suc (length placed)

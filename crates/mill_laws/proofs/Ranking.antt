@@ -1,18 +1,23 @@
 -- The rank is the one order of the file's orders, each with its place, in which each stands before
 -- the next: weight falling, then colour rising, then place rising.
-use Rattle.std.proofs.Common.{ℕ, suc, ◌<◌, ◌≡◌, ◌⊎◌, Bool, true, ◌&&◌, ◌||◌, not, List, [], ◌∷◌}
-use Rattle.std.proofs.Common.{ltb, refl, sym, ap₂, ◌∙◌, arith, inl, inr, subst}
+use Rattle.std.proofs.Common.{ℕ, suc, ◌<◌, ◌≡◌, ◌⊎◌, true, List, [], ◌∷◌}
+use Rattle.std.proofs.Common.{refl, sym, ap₂, ◌∙◌, arith, inl, inr, subst}
 use Rattle.std.proofs.lemmas.Bool.Decides.{nat_tests}
 use Rattle.std.specs.List.{AllByRecursion}
-use Rattle.mill_model.specs.Rank.{Placed, is_before, put_in_rank, rank_from}
+use Rattle.mill_model.specs.Rank.{Placed, is_before, put_in_rank, rank_from, rank, precedes}
+use Rattle.mill_model.specs.Rank.{placed_from, same_order, same_placed}
+use Rattle.mill_laws.specs.RankLaws.{Rising, RankRises, RankHasTheOrders, RankIsTheOnlyOne}
+use Rattle.mill_laws.proofs.Settle.{same_order-eq}
+use Rattle.list_laws.specs.Sets.{times, SameTimes}
+use Rattle.list_laws.proofs.Times.{times-pos, times-among}
 use Rattle.mill_model.specs.declared.order.Order.{Order}
-use Rattle.mill_laws.proofs.Lists.{Among, each-at}
-use Rattle.mill_laws.proofs.Different.{either}
-use Rattle.mill_laws.proofs.Merged.{each-weaker}
-
--- whether one placed order stands before another
-abbrev pub precedes : Placed → Placed → Bool
-precedes a b = is_before a.order b.order || (not (is_before b.order a.order) && ltb a.place b.place)
+use Rattle.list_laws.proofs.Among.{Among, each-at, each-weaker}
+use Rattle.list_laws.proofs.Tests.{either}
+use Rattle.list_laws.proofs.Tests.{and-left}
+use Rattle.std.proofs.Common.{ap}
+use Rattle.std.proofs.Common.{cond, eqb-true}
+use Rattle.list_laws.proofs.Tests.{and-right}
+use Rattle.std.proofs.Common.{◌+◌}
 
 pub precedes-trans : (x y z : Placed) → precedes x y ≡ true → precedes y z ≡ true →
     precedes x z ≡ true
@@ -23,11 +28,6 @@ precedes-not x y h k = grind (arith, nat_tests)
 
 pub precedes-self : (x : Placed) → precedes x x ≡ true → ⊥
 precedes-self x h = grind (arith, nat_tests)
-
--- each stands before all behind it
-abbrev pub Rising : List Placed → Type 0
-Rising [] = Unit {0}
-Rising (x ∷ xs) = AllByRecursion (λ y. precedes x y ≡ true) xs × Rising xs
 
 -- Two rising lists of the same things are one: their first things are the same, since each of the
 -- two stands among the other list.
@@ -107,3 +107,55 @@ rank-rising k [] = tt
 rank-rising k (o ∷ orders) =
     put-rising (record { order = o; place = k }) (rank_from (suc k) orders)
     (rank-places k (suc k) orders (omega arith)) (rank-rising (suc k) orders)
+
+-- The rank has the file's orders, each with its place.
+
+pub same_placed-refl : (x : Placed) → same_placed x x ≡ true
+same_placed-refl x = grind (arith, nat_tests)
+
+pub same_placed-eq : (x y : Placed) → same_placed x y ≡ true → x ≡ y
+same_placed-eq x y h =
+    let order : x.order ≡ y.order =
+    same_order-eq x.order y.order (and-left (same_order x.order y.order) _ h) in
+    let place : x.place ≡ y.place =
+    eqb-true x.place y.place (and-right (same_order x.order y.order) _ h) in
+    λ i. record { order = order i; place = place i }
+
+pub put-times : (x new : Placed) (xs : List Placed) →
+    times same_placed x (put_in_rank new xs) ≡ times same_placed x (new ∷ xs)
+put-times x new [] = refl
+put-times x new (y ∷ xs) = elim (either (is_before y.order new.order)) [
+  | inl e ↦ (let ih : times same_placed x (put_in_rank new xs) ≡ times same_placed x (new ∷ xs) =
+      put-times x new xs in rw e (omega arith))
+  | inr e ↦ rw e refl
+]
+
+pub rank-times : (k : ℕ) (orders : List Order) →
+    SameTimes same_placed (rank_from k orders) (placed_from k orders)
+rank-times k [] x = refl
+rank-times k (order ∷ orders) x =
+    put-times x (record { order = order; place = k }) (rank_from (suc k) orders)
+    ∙ ap (λ n. cond (same_placed x (record { order = order; place = k })) 1 0 + n)
+    (rank-times (suc k) orders x)
+
+-- what stands in one list stands in another that has each thing as often
+pub among-same : (xs ys : List Placed) → SameTimes same_placed xs ys → (x : Placed) → Among x xs →
+    Among x ys
+among-same xs ys same x a =
+    times-among same_placed same_placed-eq x ys (rw (← same x)
+    (times-pos same_placed same_placed-refl x xs a))
+
+-- The laws.
+
+pub rank-rises : RankRises
+rank-rises orders = rank-rising 0 orders
+
+pub rank-has-the-orders : RankHasTheOrders
+rank-has-the-orders orders = rank-times 0 orders
+
+pub rank-is-the-only-one : RankIsTheOnlyOne
+rank-is-the-only-one orders placed rises same =
+    let both : SameTimes same_placed placed (rank orders) =
+    λ x. same x ∙ sym (rank-times 0 orders x) in
+    rising-unique placed (rank orders) rises (rank-rising 0 orders)
+    (among-same placed (rank orders) both) (among-same (rank orders) placed (λ x. sym (both x)))

@@ -6,7 +6,7 @@ use Rattle.mill_model.specs.Size.{may_split}
 use Rattle.mill_model.specs.declared.closing.Closing.TheVariants.{Split}
 use Rattle.mill_laws.specs.RunLaws.{splits_only_where, PiecesRefute, NoPathTwice, RunFitsTheTree}
 use Rattle.mill_laws.specs.RunLaws.{ThriftyRunFitsTheThriftyTree}
-use Rattle.mill_laws.proofs.Lists.{and-left, and-right}
+use Rattle.list_laws.proofs.Tests.{and-left, and-right}
 use Rattle.mill_laws.proofs.Law.{Has, has-all}
 use Rattle.mill_laws.proofs.Merged.{each-joined, conserved-refutes}
 use Rattle.mill_laws.proofs.Once.{conserved-once}

@@ -1,28 +1,22 @@
 -- The second charge of a load above 0 is its charge times n + 1, plus 1. So the loss of a plan over
 -- it is its loss times n + 1, plus the number of its slabs.
-use Rattle.std.proofs.Common.{ℕ, zero, suc, ◌+◌, ◌*◌, ◌<◌, ◌≡◌, eqb, ltb, true, cond, List, [], ◌∷◌}
+use Rattle.std.proofs.Common.{ℕ, suc, ◌+◌, ◌*◌, ◌<◌, ◌≡◌, eqb, ltb, true, cond, List, [], ◌∷◌}
 use Rattle.std.proofs.Common.{length, refl, arith, inl, inr, ne_eqb}
 use Rattle.std.proofs.lemmas.Bool.Decides.{nat_tests}
 use Rattle.std.specs.List.{list_all}
-use Rattle.mill_model.specs.Sets.{holds, different, total}
+use Rattle.list_laws.specs.Sets.{holds, different, total}
 use Rattle.mill_model.specs.Slab.{load}
 use Rattle.mill_model.specs.Plan.{slab, loss}
 use Rattle.mill_model.specs.declared.order.Order.{Order}
-use Rattle.mill_laws.proofs.Lists.{total-cong}
-use Rattle.mill_laws.proofs.Different.{either}
-use Rattle.mill_laws.proofs.Canonical.{by_last, only, total-add, total-by_last, slab-unused}
+use Rattle.list_laws.proofs.Sums.{total-cong, total-add}
+use Rattle.list_laws.proofs.Tests.{either}
+use Rattle.list_laws.proofs.LastPlaces.{only, total-by_last}
+use Rattle.mill_model.proofs.Slabs.{slab-unused}
+use Rattle.list_laws.proofs.Sums.{total-times}
+use Rattle.list_laws.proofs.LastPlaces.{by_last-ones}
 
 abbrev pub second : (ℕ → ℕ) → ℕ → ℕ → ℕ
 second charge n load = cond (eqb load 0) 0 (charge load * suc n + 1)
-
--- one for each slab
-pub by_last-ones : (plan : List ℕ) → by_last (λ s. 1) plan ≡ different plan
-by_last-ones [] = refl
-by_last-ones (s ∷ plan) = grind (arith, by_last-ones plan)
-
-pub total-times : (n k : ℕ) (f : ℕ → ℕ) → total n (λ s. f s * k) ≡ total n f * k
-total-times zero k f = omega arith
-total-times (suc n) k f = omega (arith, total-times n k f)
 
 -- an order that weighs something makes its slab weigh something
 pub used-load : (s : ℕ) (plan : List ℕ) (orders : List Order) → length plan ≡ length orders →

@@ -7,17 +7,19 @@
 use Rattle.std.proofs.Common.{ℕ, zero, suc, ◌<◌, ◌≤◌, ◌≡◌, max, eqb, leb, ltb, Bool, true, false}
 use Rattle.std.proofs.Common.{cond, ◌&&◌, ◌||◌, not, List, [], ◌∷◌, ◌++◌, length, drop, refl, sym}
 use Rattle.std.proofs.Common.{ap, ap₂, ◌∙◌, arith, inl, inr, eqb-true, le-leb, leb-true, ltb-true}
-use Rattle.std.proofs.Common.{append_assoc}
+use Rattle.std.proofs.Common.{append_assoc, lt-ltb, length-drop}
 use Rattle.std.proofs.lemmas.Bool.Decides.{nat_tests}
 use Rattle.mill_model.specs.Slab.{Mill, legal}
 use Rattle.mill_model.specs.Plan.{slab}
 use Rattle.mill_model.specs.Rank.{same_order, starts_class_in}
 use Rattle.mill_model.specs.Tree.{later_orders, next_new, last_number, goes_on}
 use Rattle.mill_model.specs.declared.order.Order.{Order}
-use Rattle.mill_laws.proofs.Lists.{and-left, and-right, next_new-append}
-use Rattle.mill_laws.proofs.Different.{either, or-left, legal-front}
-use Rattle.mill_laws.proofs.Duality.{slab-append}
+use Rattle.list_laws.proofs.Tests.{and-left, and-right, either, or-left}
+use Rattle.mill_laws.proofs.Groups.{next_new-append}
+use Rattle.mill_model.proofs.Slabs.{legal-front, slab-append}
 use Rattle.mill_laws.proofs.Canonical.{grows}
+use Rattle.list_laws.proofs.Lists.{length-push}
+use Rattle.list_laws.proofs.Lists.{drop-step}
 
 -- a number goes in ahead of sorted ones, behind the smaller ones of its class
 abbrev pub put : ℕ → List Order → List ℕ → List ℕ
@@ -160,21 +162,10 @@ settle-rises (o ∷ orders) (a ∷ more) =
 
 -- A path may go on with numbers that grow, rise within classes and keep slabs legal.
 
-pub length-push : (path : List ℕ) (g : ℕ) → length (path ++ g ∷ []) ≡ suc (length path)
-length-push [] g = refl
-length-push (x ∷ path) g = ap suc (length-push path g)
-
 pub last_number-push : (path : List ℕ) (g : ℕ) → last_number (path ++ g ∷ []) ≡ g
 last_number-push [] g = refl
 last_number-push (x ∷ []) g = refl
 last_number-push (x ∷ y ∷ path) g = last_number-push (y ∷ path) g
-
-pub drop-step : {X : Type 0} (k : ℕ) (xs : List X) (o : X) (rest : List X) →
-    drop k xs ≡ o ∷ rest → drop (suc k) xs ≡ rest
-drop-step zero [] o rest e = absurd (cc)
-drop-step zero (x ∷ xs) o rest e = cc
-drop-step (suc k) [] o rest e = absurd (cc)
-drop-step (suc k) (x ∷ xs) o rest e = drop-step k xs o rest e
 
 -- the next depth starts a class where the order there differs from the one before it
 pub starts-step : (k : ℕ) (ranked : List Order) (o p : Order) (rest : List Order) →
@@ -234,7 +225,10 @@ module _ (mill : Mill) (ranked : List Order) where
       omega (arith, next_new-append path (g ∷ [])) in
       let rest-is : later_orders ranked (path ++ g ∷ []) ≡ rest =
       rw (length-push path g) (drop-step (length path) ranked o rest e) in
-      rw (old-or-next, fits-here, start) (goes-from (path ++ g ∷ []) rest more rest-is (omega arith)
+      let to-come : ltb (length path) (length ranked) ≡ true =
+      lt-ltb (length path) (length ranked)
+      (omega (arith, length-drop (length path) ranked, ap length e)) in
+      rw (to-come, old-or-next, fits-here, start) (goes-from (path ++ g ∷ []) rest more rest-is (omega arith)
       (next-start path g o rest more e (omega arith) rise)
       (rw next (and-right (leb g (next_new path)) _ grow)) (rises-tail o rest g more rise)
       (λ s. rw (← assoc) (fits s)))

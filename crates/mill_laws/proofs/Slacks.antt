@@ -1,33 +1,21 @@
 -- Sets of orders that are legal with a group, their slacks at some prices, and the least of these.
 use Rattle.std.proofs.Common.{ℕ, zero, suc, ◌<◌, ◌≤◌, ◌≡◌, Bool, true, false, cond, List, [], ◌∷◌}
-use Rattle.std.proofs.Common.{◌++◌, map, filter, length, get_or, set, replicate, ℤ, pos, ◌+ℤ◌, ◌-ℤ◌}
+use Rattle.std.proofs.Common.{◌++◌, map, filter, length, get_or, set, ℤ, pos, ◌+ℤ◌, ◌-ℤ◌}
 use Rattle.std.proofs.Common.{◌≤ℤ◌, refl, ap, ◌∙◌, arith, subst, append-nil, length-set}
 use Rattle.std.proofs.lemmas.Bool.Decides.{nat_tests}
 use Rattle.std.proofs.lemmas.Int.{ints}
-use Rattle.mill_model.specs.Sets.{chosen, sets, int_sum}
+use Rattle.list_laws.specs.Sets.{chosen, sets, int_sum}
 use Rattle.mill_model.specs.Slab.{Mill, legal}
 use Rattle.mill_model.specs.Prices.{slack, legal_sets, least_slack}
 use Rattle.mill_model.specs.Bounds.{in_set, slacks}
 use Rattle.mill_model.specs.declared.order.Order.{Order}
-use Rattle.mill_laws.proofs.Lists.{Among, Among-map, Among-unmap, Among-filter, Among-unfilter}
-use Rattle.mill_laws.proofs.Lists.{among-sets, least-among}
-use Rattle.mill_laws.proofs.Least.{least-glb}
+use Rattle.list_laws.proofs.Among.{Among, Among-map, Among-unmap, Among-filter, Among-unfilter}
+use Rattle.list_laws.proofs.Among.{among-sets}
+use Rattle.mill_laws.proofs.Least.{least-among, least-glb}
+use Rattle.list_laws.proofs.Lists.{nothing}
+use Rattle.list_laws.proofs.Lists.{nothing-chosen, nothing-length}
 
 -- The set with nothing.
-
-unfoldable pub nothing : ℕ → List Bool
-nothing n = replicate n false
-
-pub nothing-chosen : {X : Type 0} (n : ℕ) (xs : List X) → chosen (nothing n) xs ≡ []
-unfolding nothing
-nothing-chosen zero xs = refl
-nothing-chosen (suc n) [] = refl
-nothing-chosen (suc n) (x ∷ xs) = nothing-chosen n xs
-
-pub nothing-length : (n : ℕ) → length (nothing n) ≡ n
-unfolding nothing
-nothing-length zero = refl
-nothing-length (suc n) = ap suc (nothing-length n)
 
 pub nothing-in : (i n : ℕ) → in_set i (nothing n) ≡ false
 unfolding nothing

@@ -17,7 +17,7 @@ use Rattle.std.proofs.Common.{map, length, get_or, set, ℤ, pos, ◌+ℤ◌, �
 use Rattle.std.proofs.Common.{refl, sym, ap, ◌∙◌, arith, inl, inr, length-set}
 use Rattle.std.proofs.lemmas.Int.{ints}
 use Rattle.std.specs.List.{list_any}
-use Rattle.mill_model.specs.Sets.{int_sum, int_total, below}
+use Rattle.list_laws.specs.Sets.{int_sum, int_total, below}
 use Rattle.mill_model.specs.Slab.{Mill, legal}
 use Rattle.mill_model.specs.Plan.{slab}
 use Rattle.mill_model.specs.Tree.{later_orders, next_new}
@@ -25,38 +25,18 @@ use Rattle.mill_model.specs.Prices.{slack, legal_sets, valid, least_slack, worth
 use Rattle.mill_model.specs.Bounds.{in_set, slacks, least_on_with, least_on_without, or_zero}
 use Rattle.mill_model.specs.Bounds.{joinable, joining_cost, swept_price, sweep}
 use Rattle.mill_model.specs.declared.order.Order.{Order}
-use Rattle.mill_laws.proofs.Lists.{last-or-below, Among, Among-append_left, Among-append_right}
-use Rattle.mill_laws.proofs.Lists.{Among-unappend, Among-map, Among-unmap, Among-filter}
-use Rattle.mill_laws.proofs.Lists.{Among-unfilter, all-among, all-from, any-among, any-from}
-use Rattle.mill_laws.proofs.Lists.{among-below, below-lt}
-use Rattle.mill_laws.proofs.Different.{either}
+use Rattle.list_laws.proofs.Tests.{either}
+use Rattle.list_laws.proofs.Among.{Among, Among-append_left, Among-append_right, Among-unappend}
+use Rattle.list_laws.proofs.Among.{Among-map, Among-unmap, Among-filter, Among-unfilter, all-among}
+use Rattle.list_laws.proofs.Among.{all-from, any-among, any-from, among-below, below-lt}
 use Rattle.mill_laws.proofs.Least.{or_zero-le, or_zero-in}
-use Rattle.mill_laws.proofs.Slacks.{nothing, nothing-in, nothing-legal, among-slacks, from-slacks}
+use Rattle.mill_laws.proofs.Slacks.{nothing-in, nothing-legal, among-slacks, from-slacks}
 use Rattle.mill_laws.proofs.Slacks.{least_slack-glb, least_slack-below, slack-change, sum-change}
 use Rattle.mill_laws.proofs.Slacks.{set-back}
+use Rattle.list_laws.proofs.Lists.{nothing}
+use Rattle.list_laws.proofs.Sums.{int_total-gain, int_total-mono}
 
 -- Sums over the groups.
-
-pub int_total-mono : (n : ℕ) (f g : ℕ → ℤ) → ((s : ℕ) → s < n → f s ≤ℤ g s) →
-    int_total n f ≤ℤ int_total n g
-int_total-mono zero f g h = omega (arith, ints)
-int_total-mono (suc n) f g h =
-    omega (arith, ints, int_total-mono n f g (λ s l. h s (omega arith)), h n (omega arith))
-
--- where none falls, and that of t rises by d
-pub int_total-gain : (n t : ℕ) (d : ℤ) (f g : ℕ → ℤ) → t < n → ((s : ℕ) → s < n → f s ≤ℤ g s) →
-    (f t +ℤ d) ≤ℤ g t → (int_total n f +ℤ d) ≤ℤ int_total n g
-int_total-gain zero t d f g l h k = absurd (omega arith)
-int_total-gain (suc n) t d f g l h k = elim (last-or-below t n l) [
-  | inl e ↦ (let here : (f n +ℤ d) ≤ℤ g n = rw e at k in
-      omega (arith, ints, int_total-mono n f g (λ s i. h s (omega arith))))
-  | inr b ↦ omega (
-    arith,
-    ints,
-    int_total-gain n t d f g b (λ s i. h s (omega arith)) k,
-    h n (omega arith),
-  )
-]
 
 -- A price is set anew.
 

@@ -5,48 +5,26 @@
 -- Count the run's paths under a path p of the tree, with d orders to come. If p passes the test,
 -- they are p, at most once, and those under its children; if it doesn't, it wasn't split, and they
 -- are p at most. By d, they are at most as many as the tree of the test has from p on.
-use Rattle.std.proofs.Common.{ℕ, zero, suc, ◌+◌, ◌<◌, ◌≤◌, ◌≡◌, ◌⊎◌, eqb, Bool, true, false, cond}
-use Rattle.std.proofs.Common.{◌&&◌, List, [], ◌∷◌, ◌++◌, map, filter, length, refl, sym, ap, ap₂}
-use Rattle.std.proofs.Common.{◌∙◌, arith, inl, inr, subst, eq-eqb, eqb-true, length-append}
+use Rattle.std.proofs.Common.{ℕ, zero, suc, ◌+◌, ◌<◌, ◌≤◌, ◌≡◌, ◌⊎◌, Bool, true, cond}
+use Rattle.std.proofs.Common.{List, [], ◌∷◌, ◌++◌, map, filter, length, refl, sym, ap}
+use Rattle.std.proofs.Common.{◌∙◌, arith, inl, inr, subst, length-append}
 use Rattle.std.proofs.Common.{append_assoc, append-nil}
-use Rattle.mill_model.specs.Sets.{same_list, below, times, SameTimes}
+use Rattle.list_laws.specs.Sets.{same_list, below, times, SameTimes}
 use Rattle.mill_model.specs.Tree.{next_new, may_go_on, children}
 use Rattle.mill_model.specs.Log.{Task, recorded, left_open, split_children}
 use Rattle.mill_model.specs.Size.{size, sum_list}
 use Rattle.mill_model.specs.declared.closing.Entry.{Entry}
 use Rattle.mill_model.specs.declared.closing.Closing.{Closing}
 use Rattle.mill_model.specs.declared.closing.Closing.TheVariants.{Split, Leaf, Priced, Dominated}
-use Rattle.mill_laws.proofs.Lists.{and-left, and-right, Among, Among-append_left, Among-unmap}
-use Rattle.mill_laws.proofs.Lists.{Among-unappend, times-pos, times-among}
-use Rattle.mill_laws.proofs.Different.{either}
-use Rattle.mill_laws.proofs.Law.{same_list-refl, same_list-eq, Has, recorded-has}
-use Rattle.mill_laws.proofs.Once.{same-child, ends, conserved-once}
+use Rattle.list_laws.proofs.Tests.{either}
+use Rattle.list_laws.proofs.Among.{Among, Among-append_left, Among-unmap, Among-unappend}
+use Rattle.list_laws.proofs.Times.{times-pos, times-among, same_list-refl, same_list-eq}
+use Rattle.mill_laws.proofs.Law.{Has, recorded-has}
+use Rattle.mill_laws.proofs.Once.{ends, conserved-once}
+use Rattle.list_laws.proofs.Lists.{is_prefix, prefix-append, prefix-rest}
+use Rattle.list_laws.proofs.Times.{push-inj}
 
 -- Prefixes.
-
-abbrev pub is_prefix : List ℕ → List ℕ → Bool
-is_prefix [] ys = true
-is_prefix (x ∷ xs) [] = false
-is_prefix (x ∷ xs) (y ∷ ys) = eqb x y && is_prefix xs ys
-
-pub prefix-append : (xs ys : List ℕ) → is_prefix xs (xs ++ ys) ≡ true
-prefix-append [] ys = refl
-prefix-append (x ∷ xs) ys = rw (eq-eqb x x refl) (prefix-append xs ys)
-
-pub prefix-rest : (xs ys : List ℕ) → is_prefix xs ys ≡ true → (more : List ℕ) × (ys ≡ xs ++ more)
-prefix-rest [] ys h = (ys, refl)
-prefix-rest (x ∷ xs) [] h = absurd (cc)
-prefix-rest (x ∷ xs) (y ∷ ys) h =
-    let r = prefix-rest xs ys (and-right (eqb x y) (is_prefix xs ys) h) in
-    (r.0, ap₂ (λ a b. a ∷ b) (sym (eqb-true x y (and-left (eqb x y) (is_prefix xs ys) h))) r.1)
-
-pub push-inj : (xs ys : List ℕ) (a b : ℕ) → xs ++ a ∷ [] ≡ ys ++ b ∷ [] → (xs ≡ ys) × (a ≡ b)
-push-inj xs ys a b e =
-    let same : (same_list xs ys && eqb a b) ≡ true =
-    rw (← same-child xs ys a b, ← e) (same_list-refl (xs ++ a ∷ [])) in (
-      same_list-eq xs ys (and-left (same_list xs ys) (eqb a b) same),
-      eqb-true a b (and-right (same_list xs ys) (eqb a b) same),
-    )
 
 -- How many paths of a list go through p, and through some paths.
 

@@ -1,12 +1,11 @@
 -- The laws of the tree.
-use Rattle.std.proofs.Common.{ℕ, List, [], length, leb, ◌∙◌, arith, le-leb}
+use Rattle.std.proofs.Common.{ℕ, List, [], ◌∙◌, arith}
 use Rattle.mill_model.specs.Plan.{IsLegalPlan}
 use Rattle.mill_model.specs.Rank.{ranked_orders, plan_in_rank}
 use Rattle.mill_model.specs.Log.{Task}
-use Rattle.mill_laws.specs.LogLaws.{task_of}
+use Rattle.mill_model.specs.Log.{task_of_orders}
 use Rattle.mill_laws.specs.TreeLaws.{IsLeaf, EachPlanHasALeaf, EachLeafIsAPlan, EachPathIsCanonical}
 use Rattle.mill_laws.specs.TreeLaws.{TreeHasAtMost}
-use Rattle.mill_laws.proofs.Lists.{and-right}
 use Rattle.mill_laws.proofs.Enough.{size-enough}
 use Rattle.mill_laws.proofs.Forms.{canonical-same}
 use Rattle.mill_laws.proofs.Legal.{legal-from}
@@ -18,13 +17,13 @@ use Rattle.mill_laws.proofs.Twin.{twin, twin-word, twin-loss}
 pub word-leaf : (task : Task) (word : List ℕ) → Word task [] word →
     IsLeaf task.mill task.ranked word
 word-leaf task word w = record {
-  tree = rw (le-leb (length word) (length task.ranked) (omega (arith, w.long))) w.goes;
+  tree = w.goes;
   places_all = omega (arith, w.long);
 }
 
 pub each-plan-has-a-leaf : EachPlanHasALeaf
 each-plan-has-a-leaf mill charge orders plan z h =
-    let task = task_of mill charge orders in
+    let task = task_of_orders mill charge orders in
     let ranked = plan_in_rank orders plan in
     let in-rank : IsLegalPlan mill (ranked_orders orders) ranked =
     record {
@@ -44,8 +43,7 @@ each-leaf-is-a-plan mill ranked leaf h =
 
 pub each-path-is-canonical : EachPathIsCanonical
 each-path-is-canonical mill ranked path h =
-    canonical-same path (goes-grows mill ranked [] path
-    (and-right (leb (length path) (length ranked)) _ h))
+    canonical-same path (goes-grows mill ranked [] path h)
 
 pub tree-has-at-most : TreeHasAtMost
 tree-has-at-most task test = size-enough task test

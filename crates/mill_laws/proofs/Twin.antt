@@ -7,9 +7,10 @@ use Rattle.mill_model.specs.Plan.{slab, loss, IsLegalPlan}
 use Rattle.mill_model.specs.Tree.{canonical}
 use Rattle.mill_model.specs.Log.{Task}
 use Rattle.mill_model.specs.declared.order.Order.{Order}
-use Rattle.mill_laws.proofs.Lists.{total-cong}
+use Rattle.list_laws.proofs.Sums.{total-cong}
 use Rattle.mill_laws.proofs.Canonical.{canonical-grows, canonical-fits, canonical-loss}
-use Rattle.mill_laws.proofs.Canonical.{canonical-numbers, next_new-le}
+use Rattle.mill_laws.proofs.Canonical.{canonical-numbers}
+use Rattle.mill_laws.proofs.Groups.{next_new-le}
 use Rattle.mill_laws.proofs.Legal.{plan-long, plan-range, plan-fits}
 use Rattle.mill_laws.proofs.Settle.{settle, settle-chosen, settle-length, settle-next_new}
 use Rattle.mill_laws.proofs.Settle.{settle-grows, settle-rises, may-start, goes-from}

@@ -1,11 +1,11 @@
 -- Small instances, with their logs, at which the definitions are computed.
-use Rattle.std.specs.Prelude.{ℕ, Bool, List, [], ◌∷◌, ◌++◌, length, ℤ, pos}
+use Rattle.std.specs.Prelude.{ℕ, Bool, List, [], ◌∷◌, ◌++◌, ℤ, pos}
 use Rattle.mill_model.specs.Slab.{Mill}
 use Rattle.mill_model.specs.Prices.{worth}
 use Rattle.mill_model.specs.LiveKey.{same_live_key}
-use Rattle.mill_model.specs.Bounds.{sweep}
+use Rattle.mill_model.specs.Bounds.{swept}
 use Rattle.mill_model.specs.Rank.{ranked_orders}
-use Rattle.mill_model.specs.Sets.{same_list, same_times}
+use Rattle.list_laws.specs.Sets.{same_list, same_times}
 use Rattle.mill_model.specs.Log.{Task, recorded, split_children}
 use Rattle.mill_model.specs.Conserved.{joined}
 use Rattle.mill_model.specs.Small.{order, four, three_mill, three_orders}
@@ -13,7 +13,7 @@ use Rattle.mill_model.specs.declared.order.Order.{Order}
 use Rattle.mill_model.specs.declared.closing.Closing.{Closing}
 use Rattle.mill_model.specs.declared.closing.Closing.TheVariants.{Split, Leaf, Priced, Dominated}
 use Rattle.mill_model.specs.declared.closing.Entry.{Entry}
-use Rattle.mill_laws.specs.LogLaws.{task_of}
+use Rattle.mill_model.specs.Log.{task_of_orders}
 
 -- a mill whose largest size is 4, with one colour a slab
 abbrev pub one_colour : Mill
@@ -29,8 +29,7 @@ abbrev pub worth_at : Task → List ℕ → List ℤ → ℤ
 worth_at task path prices = worth task.mill task.charge task.ranked path prices
 
 abbrev pub swept_at : Task → List ℕ → List ℤ → List ℤ
-swept_at task path prices =
-    sweep task.mill task.charge task.ranked path prices (length prices)
+swept_at task path prices = swept task.mill task.charge task.ranked path prices
 
 abbrev pub same_key : Task → List ℕ → List ℕ → Bool
 same_key task path other = same_live_key task.mill task.ranked path other
@@ -46,7 +45,7 @@ abbrev pub three_ranked : List Order
 three_ranked = ranked_orders three_orders
 
 abbrev pub three_task : Task
-three_task = task_of three_mill four three_orders
+three_task = task_of_orders three_mill four three_orders
 
 -- a slab with the orders (2, 3) and (1, 1), which is full for another colour, and the last order
 abbrev pub full_group : List Order
@@ -74,7 +73,7 @@ abbrev pub four_orders : List Order
 four_orders = order 3 1 ∷ order 1 2 ∷ order 1 3 ∷ order 1 4 ∷ []
 
 abbrev pub four_task : Task
-four_task = task_of three_mill four four_orders
+four_task = task_of_orders three_mill four four_orders
 
 abbrev pub ten_lines : List Entry
 ten_lines =
@@ -95,8 +94,12 @@ abbrev pub class_orders : List Order
 class_orders = order 2 1 ∷ order 1 1 ∷ order 1 2 ∷ order 1 2 ∷ []
 
 abbrev pub class_task : Task
-class_task = task_of one_colour four class_orders
+class_task = task_of_orders one_colour four class_orders
 
 -- The orders (3, 2) and (1, 1) with one colour a slab.
 abbrev pub two_task : Task
-two_task = task_of one_colour four (order 3 2 ∷ order 1 1 ∷ [])
+two_task = task_of_orders one_colour four (order 3 2 ∷ order 1 1 ∷ [])
+
+-- orders of which two and two are equal
+abbrev pub tied_orders : List Order
+tied_orders = order 1 5 ∷ order 2 1 ∷ order 1 5 ∷ order 2 1 ∷ order 1 2 ∷ []

@@ -1,3 +1,4 @@
+pub mod RankLaws
 pub mod PlanLaws
 pub mod TreeLaws
 pub mod PriceLaws

@@ -1,24 +1,18 @@
 -- Laws of logs: what a log refutes no legal plan betters, and a log closes each path once.
 use Rattle.std.specs.Prelude.{ℕ, ◌≡◌, ◌≤◌, List}
-use Rattle.mill_model.specs.Sets.{same_list, times}
+use Rattle.list_laws.specs.Sets.{same_list, times}
 use Rattle.mill_model.specs.Slab.{Mill}
 use Rattle.mill_model.specs.Plan.{NoneLosesLess}
-use Rattle.mill_model.specs.Rank.{ranked_orders}
-use Rattle.mill_model.specs.Log.{Task, recorded, IsComplete, Refutes}
+use Rattle.mill_model.specs.Log.{Task, task_of_orders, recorded, IsComplete, Refutes}
 use Rattle.mill_model.specs.declared.order.Order.{Order}
 use Rattle.mill_model.specs.declared.closing.Entry.{Entry}
-
--- what a log of an instance is judged by: its orders stand in rank
-abbrev pub task_of : Mill → (ℕ → ℕ) → List Order → Task
-task_of mill charge orders =
-    record { mill = mill; charge = charge; ranked = ranked_orders orders }
 
 -- Where a log refutes a loss, no legal plan of the instance loses less. This holds for every charge
 -- of loads that charges nothing for no load, and for all four kinds of record.
 abbrev pub RefutedLossBounds : Type 0
 RefutedLossBounds =
     (mill : Mill) (charge : ℕ → ℕ) (orders : List Order) (bound : ℕ) (log : List Entry) →
-    charge 0 ≡ 0 → Refutes (task_of mill charge orders) bound log →
+    charge 0 ≡ 0 → Refutes (task_of_orders mill charge orders) bound log →
     NoneLosesLess mill charge orders bound
 
 -- A log that refutes a loss refutes each lesser one.

@@ -1,6 +1,6 @@
 -- Laws of plans: their canonical form, the same plan in rank, and each order on a slab of its own.
 use Rattle.std.specs.Prelude.{ℕ, ◌≡◌, ◌≤◌, ◌↔◌, true, List, length, All}
-use Rattle.mill_model.specs.Sets.{below}
+use Rattle.list_laws.specs.Sets.{below}
 use Rattle.mill_model.specs.Slab.{Mill}
 use Rattle.mill_model.specs.Plan.{numbers_each, loss, IsLegalPlan}
 use Rattle.mill_model.specs.Rank.{ranked_orders, plan_in_rank}

@@ -1,10 +1,12 @@
 -- Laws of prices: weak duality, and what the ascent and the sweep give.
-use Rattle.std.specs.Prelude.{ℕ, ◌+◌, ◌*◌, ◌≡◌, true, List, length, ℤ, pos, ◌≤ℤ◌}
+use Rattle.std.specs.Prelude.{ℕ, ◌+◌, ◌*◌, ◌≡◌, true, List, length, ℤ, pos, ◌≤ℤ◌, ◌≤◌, All}
 use Rattle.mill_model.specs.Slab.{Mill}
 use Rattle.mill_model.specs.Plan.{loss, IsLegalPlan}
 use Rattle.mill_model.specs.Tree.{later_orders, in_tree, lies_under}
 use Rattle.mill_model.specs.Prices.{valid, worth}
-use Rattle.mill_model.specs.Bounds.{ascent_prices, ascent_worth, sweep}
+use Rattle.mill_model.specs.Bounds.{ascent_prices, ascent_worth, swept}
+use Rattle.mill_model.specs.Limits.{IsPrice}
+use Rattle.mill_model.specs.declared.charges.TheConstants.{MAX_CHARGE}
 use Rattle.mill_model.specs.declared.order.Order.{Order}
 use Rattle.mill_laws.specs.PlanLaws.{EachFits}
 
@@ -23,10 +25,6 @@ WeakDuality =
     IsLegalPlan mill ranked plan → lies_under path plan ≡ true →
     worth mill charge ranked path prices ≤ℤ pos (60 * loss charge plan ranked)
 
--- the prices after a whole sweep
-abbrev pub swept : Mill → (ℕ → ℕ) → List Order → List ℕ → List ℤ → List ℤ
-swept mill charge ranked path prices = sweep mill charge ranked path prices (length prices)
-
 -- At a path of the tree, the prices that a sweep gives from valid ones are valid,
 abbrev pub SweptPricesAreValid : Type 0
 SweptPricesAreValid =
@@ -42,6 +40,26 @@ SweptPricesAreWorthNoLess =
     AreValidAt mill charge ranked path prices →
     worth mill charge ranked path prices
     ≤ℤ worth mill charge ranked path (swept mill charge ranked path prices)
+
+-- no load is charged more than a slab may be
+abbrev pub IsCharge : (ℕ → ℕ) → Type 0
+IsCharge charge = (load : ℕ) → charge load ≤ MAX_CHARGE
+
+-- At a path of the tree, where each order fits a slab alone, a sweep of prices within the limits of
+-- a price gives such prices,
+abbrev pub SweptPricesStayWithin : Type 0
+SweptPricesStayWithin =
+    (mill : Mill) (charge : ℕ → ℕ) (ranked : List Order) (path : List ℕ) (prices : List ℤ) →
+    IsCharge charge → in_tree mill ranked path ≡ true → EachFits mill ranked →
+    AreValidAt mill charge ranked path prices → All IsPrice prices →
+    All IsPrice (swept mill charge ranked path prices)
+
+-- and the ascent gives such prices.
+abbrev pub AscentPricesStayWithin : Type 0
+AscentPricesStayWithin =
+    (mill : Mill) (charge : ℕ → ℕ) (ranked : List Order) (path : List ℕ) →
+    IsCharge charge → in_tree mill ranked path ≡ true → EachFits mill ranked →
+    All IsPrice (ascent_prices mill charge ranked path)
 
 -- At a path of the tree, the ascent's prices are valid,
 abbrev pub AscentPricesAreValid : Type 0

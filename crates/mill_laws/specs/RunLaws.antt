@@ -1,7 +1,7 @@
 -- Laws of runs: when their pieces refute a loss, and how many paths they can have.
 use Rattle.std.specs.Prelude.{ℕ, ◌+◌, ◌≡◌, ◌≤◌, Bool, true, ◌&&◌, List, [], ◌++◌, length, ltb}
 use Rattle.std.specs.List.{AllByRecursion}
-use Rattle.mill_model.specs.Sets.{same_list, times}
+use Rattle.list_laws.specs.Sets.{same_list, times}
 use Rattle.mill_model.specs.Log.{Task, sound, recorded, Refutes}
 use Rattle.mill_model.specs.Conserved.{joined, IsConserved}
 use Rattle.mill_model.specs.Size.{size, may_split, thrifty_size}

@@ -1,6 +1,7 @@
 ghost use Rattle.mill_laws.specs.PriceLaws.{WeakDuality, SweptPricesAreValid};
 ghost use Rattle.mill_laws.specs.PriceLaws.{SweptPricesAreWorthNoLess, AscentPricesAreValid};
-ghost use Rattle.mill_laws.specs.PriceLaws.{AscentWorthIsTheirs};
+ghost use Rattle.mill_laws.specs.PriceLaws.{AscentWorthIsTheirs, SweptPricesStayWithin};
+ghost use Rattle.mill_laws.specs.PriceLaws.{AscentPricesStayWithin};
 
 /// 60 times the loss of each legal plan under a path is at least what valid prices are worth
 /// there.
@@ -18,4 +19,11 @@ pub fn swept_prices()
 pub fn ascent_prices()
     ensures valid { AscentPricesAreValid }
     ensures worth { AscentWorthIsTheirs }
+{}
+
+/// Where each order fits a slab alone, the prices of the ascent and of its sweeps stay within the
+/// limits of a price.
+pub fn prices_stay_within()
+    ensures swept { SweptPricesStayWithin }
+    ensures ascent { AscentPricesStayWithin }
 {}

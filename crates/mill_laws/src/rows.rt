@@ -1,20 +1,21 @@
 //! The definitions at small instances, computed. The one size is 4 throughout.
 ghost use Rattle.std.specs.Prelude.{◌≡◌, [], ◌∷◌, true, false, pos, ◌-ℤ◌, map, Some, None};
 ghost use Rattle.std.specs.Prelude.{take, drop};
-ghost use Rattle.mill_model.specs.Small.{four, three_mill, three_orders};
-ghost use Rattle.mill_model.specs.Rank.{rank, starts_class_in};
+ghost use Rattle.mill_model.specs.Small.{four, order, three_mill, three_orders};
+ghost use Rattle.mill_model.specs.Rank.{rank, ranked_orders, starts_class_in};
 ghost use Rattle.mill_model.specs.Tree.{children};
 ghost use Rattle.mill_model.specs.Prices.{valid, least_slack};
-ghost use Rattle.mill_model.specs.LiveKey.{live_groups, dead_loss};
+ghost use Rattle.mill_model.specs.LiveKey.{live_groups, live_key, dead_loss};
 ghost use Rattle.mill_model.specs.Log.{sound, Refutes};
 ghost use Rattle.mill_model.specs.Bounds.{least_new, least_new_with, least_on_with};
-ghost use Rattle.mill_model.specs.Bounds.{ascent_prices, ascent_worth};
+ghost use Rattle.mill_model.specs.Bounds.{ascent_prices, ascent_worth, swept_worth};
+ghost use Rattle.mill_model.specs.Thrift.{is_open};
 ghost use Rattle.mill_model.specs.Size.{size, thrifty_size, enough};
 ghost use Rattle.mill_model.specs.declared.closing.Closing.TheVariants.{Priced, Dominated};
 ghost use Rattle.mill_laws.specs.Examples.{one_colour, three_ranked, three_task, seven_lines};
 ghost use Rattle.mill_laws.specs.Examples.{full_group, last_order, four_task, ten_lines};
 ghost use Rattle.mill_laws.specs.Examples.{class_task, two_task, worth_at, swept_at, same_key};
-ghost use Rattle.mill_laws.specs.Examples.{balances};
+ghost use Rattle.mill_laws.specs.Examples.{balances, tied_orders};
 
 /// The orders (1, 1), (1, 2) and (2, 3) in rank, by their places, and the children of two paths.
 pub fn rank_and_children()
@@ -97,6 +98,48 @@ pub fn conserved_pieces()
     ensures lost { balances three_task (take 3 (seven_lines (pos 180)) ∷ []) [] ≡ false }
     ensures whole { balances three_task
         (take 3 (seven_lines (pos 180)) ∷ drop 3 (seven_lines (pos 180)) ∷ []) [] ≡ true }
+{}
+
+/// Thrift for a loss of 4: the ascent at the path `1 2` is worth 180, which is not too much, but one
+/// sweep of its price makes it worth 240.
+pub fn thrift()
+    ensures ascent { ascent_worth three_mill four three_ranked (0 ∷ 1 ∷ []) ≡ pos 180 }
+    ensures sweep { swept_worth three_mill four three_ranked (0 ∷ 1 ∷ []) ≡ pos 240 }
+    ensures closed { is_open three_task 4 (0 ∷ 1 ∷ []) ≡ false }
+    ensures open { is_open three_task 4 (0 ∷ []) ≡ true }
+    ensures at_the_root { is_open three_task 2 [] ≡ true }
+    ensures not_at_the_root { is_open three_task 1 [] ≡ false }
+{}
+
+/// Equal orders stand by their places: of (1, 5), (2, 1), (1, 5), (2, 1) and (1, 2) the heavier come
+/// first, then the lower colour.
+pub fn rank_with_ties()
+    ensures places { map (λ placed. placed.place) (rank tied_orders)
+        ≡ 1 ∷ 3 ∷ 4 ∷ 0 ∷ 2 ∷ [] }
+    ensures orders { ranked_orders tied_orders
+        ≡ order 2 1 ∷ order 2 1 ∷ order 1 2 ∷ order 1 5 ∷ order 1 5 ∷ [] }
+    ensures classes { map (λ k. starts_class_in k (ranked_orders tied_orders))
+        (0 ∷ 1 ∷ 2 ∷ 3 ∷ 4 ∷ 5 ∷ [])
+        ≡ true ∷ false ∷ true ∷ true ∷ false ∷ true ∷ [] }
+{}
+
+/// The live key of a path as a value: the group with (2, 3) alone has its load, one colour, and
+/// neither of the colours to come.
+pub fn live_key_of_a_path()
+    ensures { live_key three_mill three_ranked (0 ∷ [])
+        ≡ record {
+          depth = 1;
+          groups = record {
+            load = 2;
+            colours = 1;
+            coming = false ∷ false ∷ [];
+          } ∷ [];
+        } }
+{}
+
+/// A path that has placed every order has no child.
+pub fn no_child_of_a_leaf()
+    ensures { children three_mill three_ranked (0 ∷ 1 ∷ 2 ∷ []) ≡ [] }
 {}
 
 /// How many paths the tree of the three orders has, and the thrifty tree for a start that loses 4.

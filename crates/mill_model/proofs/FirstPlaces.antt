@@ -1,25 +1,19 @@
 -- What stands before the first place of a number, and the canonical form of one more number.
-use Rattle.std.proofs.Common.{ℕ, suc, ◌<◌, ◌≤◌, ◌≡◌, true, false, ◌||◌, List, []}
-use Rattle.std.proofs.Common.{◌∷◌, ◌++◌, map, eqb, refl, ap, ap₂, ◌∙◌, arith, inl, inr, eq-eqb}
-use Rattle.std.proofs.Common.{le_antisymm, zero, length, eq-or-lt_of_le}
-use Rattle.std.proofs.lemmas.List.{map-append, length-append}
-use Rattle.mill_model.specs.Sets.{holds, different, below}
+use Rattle.std.proofs.Common.{ℕ, suc, ◌<◌, ◌≡◌, true, false, ◌||◌, List, [], ◌∷◌, ◌++◌, map}
+use Rattle.std.proofs.Common.{eqb, refl, ap, ap₂, ◌∙◌, arith, inl, inr, eq-eqb, zero}
+use Rattle.std.proofs.Common.{eq-or-lt_of_le}
+use Rattle.std.proofs.lemmas.List.{map-append}
+use Rattle.list_laws.specs.Sets.{holds, different, below}
 use Rattle.mill_model.specs.Tree.{before_first_of, canonical}
-use Rattle.mill_model.proofs.Different.{either, or-cases, or-left, or-right, Within, different-mono}
-use Rattle.mill_model.proofs.Different.{different-length, holds-append}
+use Rattle.list_laws.proofs.Tests.{either, or-left, or-right}
+use Rattle.list_laws.proofs.Different.{Within, holds-append}
+use Rattle.list_laws.proofs.Different.{Within-cons}
 
 -- what stands before a number
 pub before-lacks : (s : ℕ) (plan : List ℕ) → holds s (before_first_of s plan) ≡ false
 before-lacks s [] = refl
 before-lacks s (t ∷ plan) =
     elim (either (eqb s t)) [ inl e ↦ rw e | inr e ↦ rw (e, e) (before-lacks s plan) ]
-
-pub Within-cons : (t : ℕ) (xs ys : List ℕ) → Within xs ys → Within (t ∷ xs) (t ∷ ys)
-Within-cons t xs ys h x m =
-    elim (or-cases (eqb x t) (holds x xs) m) [
-      | inl e ↦ or-left (eqb x t) (holds x ys) e
-      | inr e ↦ or-right (eqb x t) (holds x ys) (h x e)
-    ]
 
 pub before-within : (s : ℕ) (plan : List ℕ) → Within (before_first_of s plan) plan
 before-within s [] x h = h
@@ -47,31 +41,6 @@ before-new s (t ∷ pre) post h =
     let k : holds s pre ≡ false = grind arith in
     rw e (ap (λ l. t ∷ l) (before-new s pre post k))
 
-push-within : (s : ℕ) (pre : List ℕ) → Within (pre ++ s ∷ []) (s ∷ pre)
-push-within s pre x h =
-    elim (or-cases (holds x pre) (holds x (s ∷ [])) (rw holds-append at h)) [
-      | inl e ↦
-          or-right (eqb x s) (holds x pre) e
-      | inr e ↦
-          elim (or-cases (eqb x s) false e) [
-            | inl k ↦ or-left (eqb x s) (holds x pre) k
-            | inr k ↦ grind arith
-          ]
-    ]
-
-within-push : (s : ℕ) (pre : List ℕ) → Within (s ∷ pre) (pre ++ s ∷ [])
-within-push s pre x h =
-    rw holds-append (elim (or-cases (eqb x s) (holds x pre) h) [
-      | inl e ↦
-          or-right (holds x pre) (eqb x s || false) (or-left (eqb x s) false e)
-      | inr e ↦ or-left (holds x pre) (eqb x s || false) e
-    ])
-
-pub different-push : (s : ℕ) (pre : List ℕ) → different (pre ++ s ∷ []) ≡ different (s ∷ pre)
-different-push s pre =
-    le_antisymm (different-mono (pre ++ s ∷ []) (s ∷ pre) (push-within s pre))
-    (different-mono (s ∷ pre) (pre ++ s ∷ []) (within-push s pre))
-
 -- the canonical form of a list that goes on begins with that of its front
 front-of : (pre all : List ℕ) (f g : ℕ → ℕ) → ((t : ℕ) → holds t pre ≡ true → f t ≡ g t) →
     map f pre ≡ map g pre
@@ -96,18 +65,3 @@ holds-below (suc n) x h =
           (or-left (eqb x n) false (eq-eqb x n e))
       | inr l ↦ or-left (holds x (below n)) (eqb x n || false) (holds-below n x l)
     ])
-
-length-below : (n : ℕ) → length (below n) ≡ n
-length-below zero = refl
-length-below (suc n) =
-    let ih : length (below n) ≡ n =
-    length-below n in length-append (below n) (n ∷ []) ∙ (omega arith)
-
-pub different-bounded : (n : ℕ) (xs : List ℕ) → ((x : ℕ) → holds x xs ≡ true → x < n) →
-    different xs ≤ n
-different-bounded n xs h =
-    let l : length (below n) ≡ n = length-below n in
-    let few : different (below n) ≤ length (below n) = different-length (below n) in
-    let less : different xs ≤ different (below n) =
-    different-mono xs (below n) (λ x k. holds-below n x (h x k)) in
-    omega arith

@@ -1,4 +1,5 @@
-pub mod Different
 pub mod FirstPlaces
+pub mod Slabs
+pub mod Sizes
+pub mod Records
 mod Numbering
-mod Sizes

@@ -1,25 +1,16 @@
 -- A table of the slabs' numbers by first appearance, and what one more slab makes of it.
-use Rattle.std.proofs.Common.{ℕ, suc, ◌+◌, ◌<◌, ◌≤◌, ◌≡◌, ◌≢◌, ◌⊎◌, true, false, ◌||◌}
-use Rattle.std.proofs.Common.{min, List, [], ◌∷◌, ◌++◌, length, eqb, refl, sym, ap, ◌∙◌, arith, inl}
-use Rattle.std.proofs.Common.{inr, eq-eqb, eqb-true, ne_eqb, get_or, set, Option, Some, None}
+use Rattle.std.proofs.Common.{ℕ, suc, ◌+◌, ◌<◌, ◌≤◌, ◌≡◌, ◌≢◌, true, false, ◌||◌, min, List}
+use Rattle.std.proofs.Common.{[], ◌∷◌, ◌++◌, length, eqb, refl, sym, ap, ◌∙◌, arith, inl, inr}
+use Rattle.std.proofs.Common.{eq-eqb, eqb-true, ne_eqb, get_or, set, Option, Some, None}
 use Rattle.std.proofs.Common.{get_or-set_same, get_or-set_other, false-eqb}
 use Rattle.std.proofs.lemmas.List.{length-set}
-use Rattle.mill_model.specs.Sets.{holds, different}
+use Rattle.list_laws.specs.Sets.{holds, different}
 use Rattle.mill_model.specs.Tree.{before_first_of}
 use Rattle.mill_model.specs.Numbering.{number_in, IsNumbering}
-use Rattle.mill_model.proofs.Different.{either, or-cases, or-left, or-right, holds-append}
-use Rattle.mill_model.proofs.FirstPlaces.{before-old, before-new, different-push, different-bounded}
-
--- what stands in a list with one more number
-holds-push : (seen : List ℕ) (t s : ℕ) → holds t (seen ++ s ∷ []) ≡ true → (holds t seen ≡ true)
-    ⊎ (t ≡ s)
-holds-push seen t s h = elim (or-cases (holds t seen) (eqb t s || false) (rw holds-append at h)) [
-  | inl e ↦ inl e
-  | inr e ↦ elim (or-cases (eqb t s) false e) [
-    | inl k ↦ inr (eqb-true t s k)
-    | inr k ↦ absurd (grind arith)
-  ]
-]
+use Rattle.list_laws.proofs.Tests.{either, or-left, or-right}
+use Rattle.list_laws.proofs.Different.{holds-append, different-push, different-bounded}
+use Rattle.mill_model.proofs.FirstPlaces.{before-old, before-new}
+use Rattle.list_laws.proofs.Different.{holds-push}
 
 slabs-push : (seen : List ℕ) (s : ℕ) → s < 65536 → ((t : ℕ) → holds t seen ≡ true → t < 65536) →
     (t : ℕ) → holds t (seen ++ s ∷ []) ≡ true → t < 65536

@@ -134,3 +134,11 @@ same_rising (x ∷ xs) (y ∷ ys) rise_x rise_y to from =
 pub same_sizes : (given xs ys : List ℕ) → AreSizesOf given xs → AreSizesOf given ys → xs ≡ ys
 same_sizes given xs ys h k =
     same_rising xs ys h.rise k.rise (λ n e. k.kept n (h.only n e)) (λ n e. h.kept n (k.only n e))
+
+-- each of some sizes is within the limit, so the largest is
+pub largest-small : (sizes : List ℕ) → All IsSize sizes → largest sizes ≤ 20000
+largest-small [] h = omega arith
+largest-small (size ∷ sizes) h =
+    let first = h 0 0 (omega arith) in
+    let ih : largest sizes ≤ 20000 = largest-small sizes (λ k d l. h (suc k) d (omega arith)) in
+    omega (arith, first.1)

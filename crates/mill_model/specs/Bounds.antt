@@ -1,13 +1,13 @@
 -- The least numbers over sets of orders, the ascent and the sweep of prices.
 use Rattle.std.specs.Prelude.{ℕ, zero, suc, Bool, false, not, List, [], ◌∷◌, ◌++◌, map, filter}
-use Rattle.std.specs.Prelude.{length, get_or, set, replicate, ℤ, pos, ◌+ℤ◌, ◌-ℤ◌, Option}
-use Rattle.std.specs.Prelude.{Some, None, flat_map}
+use Rattle.std.specs.Prelude.{length, get_or, set, replicate, ℤ, pos, ◌+ℤ◌, ◌-ℤ◌, Option, Some}
+use Rattle.std.specs.Prelude.{None, flat_map}
 use Rattle.std.specs.List.{list_any}
-use Rattle.mill_model.specs.Sets.{int_sum, int_total, below}
+use Rattle.list_laws.specs.Sets.{int_sum, int_total, below}
 use Rattle.mill_model.specs.Slab.{Mill}
 use Rattle.mill_model.specs.Plan.{slab}
 use Rattle.mill_model.specs.Tree.{later_orders, next_new}
-use Rattle.mill_model.specs.Prices.{slack, legal_sets, least, least_slack}
+use Rattle.mill_model.specs.Prices.{slack, legal_sets, least, least_slack, worth}
 use Rattle.mill_model.specs.declared.order.Order.{Order}
 
 -- whether a set holds thing i
@@ -115,3 +115,16 @@ sweep mill charge ranked path prices zero = prices
 sweep mill charge ranked path prices (suc i) =
     let swept = sweep mill charge ranked path prices i in
     set swept i (swept_price mill charge ranked path (set swept i (pos 0)) i)
+
+-- the prices after a sweep of all orders of the rest
+abbrev pub swept : Mill → (ℕ → ℕ) → List Order → List ℕ → List ℤ → List ℤ
+swept mill charge ranked path prices = sweep mill charge ranked path prices (length prices)
+
+-- the ascent's prices after one sweep, and what they are worth
+abbrev pub swept_prices : Mill → (ℕ → ℕ) → List Order → List ℕ → List ℤ
+swept_prices mill charge ranked path =
+    swept mill charge ranked path (ascent_prices mill charge ranked path)
+
+abbrev pub swept_worth : Mill → (ℕ → ℕ) → List Order → List ℕ → ℤ
+swept_worth mill charge ranked path =
+    worth mill charge ranked path (swept_prices mill charge ranked path)

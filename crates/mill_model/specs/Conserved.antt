@@ -1,7 +1,7 @@
 -- Pieces of a run: nothing is lost and nothing recorded twice.
 use Rattle.std.specs.Prelude.{ℕ, ◌≡◌, true, List, [], ◌∷◌, ◌++◌}
 use Rattle.std.specs.List.{AllByRecursion}
-use Rattle.mill_model.specs.Sets.{same_list, SameTimes}
+use Rattle.list_laws.specs.Sets.{same_list, SameTimes}
 use Rattle.mill_model.specs.Log.{Task, recorded, split_children, names_settled}
 use Rattle.mill_model.specs.declared.closing.Entry.{Entry}
 

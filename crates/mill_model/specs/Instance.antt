@@ -4,7 +4,7 @@ use Rattle.std.specs.Prelude.{None, find, All, Contains}
 use Rattle.std.specs.List.Sorted.{IsStrictlyIncreasing}
 use Rattle.mill_model.specs.Slab.{Mill}
 use Rattle.mill_model.specs.declared.order.Order.{Order}
-use Rattle.mill_model.specs.declared.order.TheConstants.{MAX_ORDERS}
+use Rattle.mill_model.specs.declared.order.TheConstants.{MAX_ORDERS, MAX_SIZES}
 
 -- what an instance says: rising sizes, the stated number of colours, which no rule uses, the
 -- orders in the file's order, and how many colours a slab may carry
@@ -29,7 +29,7 @@ IsOrder order = IsWeight order.weight × IsColour order.colour
 -- all numbers are within the limits
 pub record IsWithin (sizes : List ℕ) (stated : ℕ) (orders : List Order) (p : ℕ) : Type 0 where
   pub some_size : 1 ≤ length sizes
-  pub few_sizes : length sizes ≤ 1024
+  pub few_sizes : length sizes ≤ MAX_SIZES
   pub each_size : All IsSize sizes
   pub stated_limit : stated ≤ 4096
   pub few_orders : length orders ≤ MAX_ORDERS

@@ -1,6 +1,7 @@
-pub mod Sets
 pub mod Slab
 pub mod Instance
+pub mod Heavy
+pub mod Charges
 pub mod Plan
 pub mod Limits
 pub mod Rank
@@ -12,4 +13,9 @@ pub mod Log
 pub mod Bounds
 pub mod Conserved
 pub mod Size
+pub mod Thrift
+pub mod Best
+pub mod Exactly
 pub mod Small
+pub mod Starts
+pub mod Pairs

@@ -2,7 +2,7 @@
 use Rattle.std.specs.Prelude.{ℕ, Bool, true, false, cond, not, ◌&&◌, List, [], ◌∷◌, ◌++◌, map}
 use Rattle.std.specs.Prelude.{filter, length, eqb}
 use Rattle.std.specs.List.{list_any}
-use Rattle.mill_model.specs.Sets.{same_times, holds, total, below}
+use Rattle.list_laws.specs.Sets.{same_times, holds, total, below}
 use Rattle.mill_model.specs.Slab.{Mill, load, colours, legal}
 use Rattle.mill_model.specs.Plan.{slab}
 use Rattle.mill_model.specs.Tree.{later_orders, next_new}
@@ -52,11 +52,23 @@ live_groups mill ranked path =
     map (λ g. seen_from (later_orders ranked path) (slab g path ranked))
     (filter (has_live mill ranked path) (below (next_new path)))
 
--- whether two paths have the same live key: one length, and each live group as often
+-- a live key: how many orders are placed, and the live groups, whose order doesn't matter
+pub record LiveKey : Type 0 where
+  pub depth : ℕ
+  pub groups : List LiveGroup
+
+-- the live key of a path
+abbrev pub live_key : Mill → List Order → List ℕ → LiveKey
+live_key mill ranked path =
+    record { depth = length path; groups = live_groups mill ranked path }
+
+-- whether two live keys are the same: one depth, and each live group as often
+abbrev pub keys_match : LiveKey → LiveKey → Bool
+keys_match a b = eqb a.depth b.depth && same_times same_group a.groups b.groups
+
+-- whether two paths have the same live key
 abbrev pub same_live_key : Mill → List Order → List ℕ → List ℕ → Bool
-same_live_key mill ranked q r =
-    eqb (length q) (length r)
-    && same_times same_group (live_groups mill ranked q) (live_groups mill ranked r)
+same_live_key mill ranked q r = keys_match (live_key mill ranked q) (live_key mill ranked r)
 
 -- the charges of the groups that are not live
 abbrev pub dead_loss : Mill → (ℕ → ℕ) → List Order → List ℕ → ℕ

@@ -2,10 +2,11 @@
 use Rattle.std.specs.Prelude.{ℕ, ◌+◌, ◌≡◌, Bool, true, false, not, ◌&&◌, ◌||◌, List, [], ◌∷◌, ◌++◌}
 use Rattle.std.specs.Prelude.{length, eqb, leb, ltb, pos, ◌-ℤ◌, ◌*ℤ◌, int_lt}
 use Rattle.std.specs.List.{AllByRecursion}
-use Rattle.mill_model.specs.Sets.{same_list, SameTimes}
+use Rattle.list_laws.specs.Sets.{same_list, SameTimes}
 use Rattle.mill_model.specs.Slab.{Mill}
 use Rattle.mill_model.specs.Plan.{loss}
-use Rattle.mill_model.specs.Rank.{starts_class_in}
+use Rattle.mill_model.specs.Instance.{Problem, mill_of}
+use Rattle.mill_model.specs.Rank.{ranked_orders, starts_class_in}
 use Rattle.mill_model.specs.Tree.{children, in_tree, later_orders}
 use Rattle.mill_model.specs.Prices.{valid, worth}
 use Rattle.mill_model.specs.LiveKey.{same_live_key, dead_loss}
@@ -19,6 +20,15 @@ pub record Task : Type 0 where
   pub mill : Mill
   pub charge : ℕ → ℕ
   pub ranked : List Order
+
+-- what the logs of some orders are judged by, which then stand in rank
+abbrev pub task_of_orders : Mill → (ℕ → ℕ) → List Order → Task
+task_of_orders mill charge orders =
+    record { mill = mill; charge = charge; ranked = ranked_orders orders }
+
+-- what the logs of an instance are judged by, for a charge of each load
+abbrev pub task_of : Problem → (ℕ → ℕ) → Task
+task_of problem charge = task_of_orders (mill_of problem) charge problem.orders
 
 -- whether a record is sound for a loss; its path is in the tree
 abbrev pub sound : Task → ℕ → List ℕ → Closing → Bool

@@ -1,7 +1,7 @@
 -- What the private table of a plan being tidied stands for. No public clause cites it.
-use Rattle.std.specs.Prelude.{ℕ, ◌≡◌, ◌<◌, List, length, cond, min, true, Option, Some}
-use Rattle.std.specs.Prelude.{None, get_or}
-use Rattle.mill_model.specs.Sets.{holds, different}
+use Rattle.std.specs.Prelude.{ℕ, ◌≡◌, ◌<◌, List, length, cond, min, true, Option, Some, None}
+use Rattle.std.specs.Prelude.{get_or}
+use Rattle.list_laws.specs.Sets.{holds, different}
 use Rattle.mill_model.specs.Tree.{before_first_of}
 
 -- the number of a slab in the order of first appearance, where it appeared

@@ -1,7 +1,7 @@
 -- Plans: a slab number for each order.
 use Rattle.std.specs.Prelude.{ℕ, ◌≡◌, ◌≤◌, Bool, true, ◌&&◌, List, map, length, eqb, ltb}
 use Rattle.std.specs.List.{list_all}
-use Rattle.mill_model.specs.Sets.{total, each_below, chosen}
+use Rattle.list_laws.specs.Sets.{total, each_below, chosen}
 use Rattle.mill_model.specs.Slab.{Mill, load, legal}
 use Rattle.mill_model.specs.declared.order.Order.{Order}
 
@@ -27,6 +27,12 @@ loss charge plan orders = total (length orders) (λ s. charge (load (slab s plan
 pub record IsLegalPlan (mill : Mill) (orders : List Order) (plan : List ℕ) : Type 0 where
   pub each : numbers_each plan orders ≡ true
   pub slabs : legal_plan mill plan orders ≡ true
+
+-- a legal plan of some orders, and what it loses
+pub record IsPlanWithLoss (mill : Mill) (charge : ℕ → ℕ) (orders : List Order) (plan : List ℕ)
+    (lost : ℕ) : Type 0 where
+  pub legal : IsLegalPlan mill orders plan
+  pub loses : loss charge plan orders ≡ lost
 
 -- no legal plan loses less than a bound
 abbrev pub NoneLosesLess : Mill → (ℕ → ℕ) → List Order → ℕ → Type 0

@@ -1,9 +1,9 @@
 -- Prices for the orders from a rank on, and what they prove.
-use Rattle.std.specs.Prelude.{ℕ, ◌*◌, Bool, List, [], ◌∷◌, ◌++◌, map, filter, length, ℤ, pos}
-use Rattle.std.specs.Prelude.{◌+ℤ◌, ◌-ℤ◌, int_le}
+use Rattle.std.specs.Prelude.{ℕ, ◌*◌, Bool, List, [], ◌∷◌, ◌++◌, map, filter, length, ℤ, pos, ◌+ℤ◌}
+use Rattle.std.specs.Prelude.{◌-ℤ◌, int_le}
 use Rattle.std.specs.List.{list_all}
 use Rattle.std.specs.Int.{int_min}
-use Rattle.mill_model.specs.Sets.{chosen, sets, int_sum, int_total}
+use Rattle.list_laws.specs.Sets.{chosen, sets, int_sum, int_total}
 use Rattle.mill_model.specs.Slab.{Mill, load, legal}
 use Rattle.mill_model.specs.Plan.{slab}
 use Rattle.mill_model.specs.Tree.{later_orders, next_new}

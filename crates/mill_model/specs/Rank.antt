@@ -12,11 +12,21 @@ pub record Placed : Type 0 where
 abbrev pub is_before : Order → Order → Bool
 is_before a b = ltb b.weight a.weight || (eqb a.weight b.weight && ltb a.colour b.colour)
 
+-- whether a placed order precedes another: by weight falling, then colour rising, then place rising
+abbrev pub precedes : Placed → Placed → Bool
+precedes a b = is_before a.order b.order || (not (is_before b.order a.order) && ltb a.place b.place)
+
 -- among orders in rank, ahead of those that do not stand strictly before it
 abbrev pub put_in_rank : Placed → List Placed → List Placed
 put_in_rank new [] = new ∷ []
 put_in_rank new (first ∷ rest) =
     cond (is_before first.order new.order) (first ∷ put_in_rank new rest) (new ∷ first ∷ rest)
+
+-- the orders of a file from a place on, each with its place
+abbrev pub placed_from : ℕ → List Order → List Placed
+placed_from place [] = []
+placed_from place (order ∷ orders) =
+    record { order = order; place = place } ∷ placed_from (suc place) orders
 
 -- the orders of a file from a place on, in rank: weight falling, then colour rising, then place
 abbrev pub rank_from : ℕ → List Order → List Placed
@@ -38,6 +48,10 @@ plan_in_rank orders plan = map (λ placed. get_or plan placed.place 0) (rank ord
 -- whether two orders have one weight and one colour
 abbrev pub same_order : Order → Order → Bool
 same_order a b = eqb a.weight b.weight && eqb a.colour b.colour
+
+-- whether two placed orders are one
+abbrev pub same_placed : Placed → Placed → Bool
+same_placed a b = same_order a.order b.order && eqb a.place b.place
 
 -- whether depth k of ranked orders starts a class: at both ends, and where the orders of rank k - 1
 -- and k differ

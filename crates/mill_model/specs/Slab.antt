@@ -1,6 +1,6 @@
 -- Slabs: sets of orders, with their load, their colours and what is legal.
 use Rattle.std.specs.Prelude.{ℕ, ◌+◌, Bool, ◌&&◌, List, [], ◌∷◌, map, leb}
-use Rattle.mill_model.specs.Sets.{different}
+use Rattle.list_laws.specs.Sets.{different}
 use Rattle.mill_model.specs.declared.order.Order.{Order}
 
 -- a mill: the largest size that it makes, and how many colours a slab may carry

@@ -1,6 +1,6 @@
 -- Small instances, at which the definitions are computed.
 use Rattle.std.specs.Prelude.{ℕ, zero, suc, Bool, not, ◌||◌, List, [], ◌∷◌, map, flat_map, leb}
-use Rattle.mill_model.specs.Sets.{below}
+use Rattle.list_laws.specs.Sets.{below}
 use Rattle.mill_model.specs.Slab.{Mill}
 use Rattle.mill_model.specs.Plan.{legal_plan, loss}
 use Rattle.mill_model.specs.Instance.{loss_charge}

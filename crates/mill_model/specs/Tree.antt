@@ -1,7 +1,7 @@
 -- Paths, the tree of paths, and the canonical form of a plan.
 use Rattle.std.specs.Prelude.{ℕ, suc, Bool, true, cond, ◌&&◌, ◌||◌, List, [], ◌∷◌, ◌++◌, map}
-use Rattle.std.specs.Prelude.{filter, length, take, drop, eqb, leb, max}
-use Rattle.mill_model.specs.Sets.{different, below, same_list}
+use Rattle.std.specs.Prelude.{filter, length, take, drop, eqb, leb, ltb, max}
+use Rattle.list_laws.specs.Sets.{different, below, same_list}
 use Rattle.mill_model.specs.Slab.{Mill, legal}
 use Rattle.mill_model.specs.Plan.{slab}
 use Rattle.mill_model.specs.Rank.{starts_class_in}
@@ -18,11 +18,13 @@ last_number [] = 0
 last_number (g ∷ []) = g
 last_number (g ∷ h ∷ path) = last_number (h ∷ path)
 
--- whether a path may go on with the group number g: to a group of its own or the next new one,
--- where the group stays legal, and within a class not below the last number
+-- Whether a path may go on with the group number g: an order is still to come, the number is that
+-- of a group or the next new one, the group stays legal, and within a class g is not below the last
+-- number.
 abbrev pub may_go_on : Mill → List Order → List ℕ → ℕ → Bool
 may_go_on mill ranked path g =
-    leb g (next_new path)
+    ltb (length path) (length ranked)
+    && leb g (next_new path)
     && legal mill (slab g (path ++ g ∷ []) ranked)
     && (starts_class_in (length path) ranked || leb (last_number path) g)
 
@@ -30,7 +32,7 @@ may_go_on mill ranked path g =
 abbrev pub later_orders : List Order → List ℕ → List Order
 later_orders ranked path = drop (length path) ranked
 
--- the children of a path shorter than the orders, by rising last number
+-- the children of a path, by rising last number; none once each order is placed
 abbrev pub children : Mill → List Order → List ℕ → List (List ℕ)
 children mill ranked path =
     map (λ g. path ++ g ∷ []) (filter (may_go_on mill ranked path) (below (suc (next_new path))))
@@ -43,7 +45,7 @@ goes_on mill ranked path (g ∷ more) =
 
 -- whether a path is reached from the empty one
 abbrev pub in_tree : Mill → List Order → List ℕ → Bool
-in_tree mill ranked path = leb (length path) (length ranked) && goes_on mill ranked [] path
+in_tree mill ranked path = goes_on mill ranked [] path
 
 -- what stands before the first s
 abbrev pub before_first_of : ℕ → List ℕ → List ℕ

@@ -14,13 +14,14 @@ mod prices;
 pub mod rows;
 #[cfg(test)]
 mod tests;
+mod threads;
 
-pub use charges::Charges;
+pub use charges::{Charges, MAX_CHARGE};
 pub use closing::{Closing, Entry};
 pub use instance::Instance;
 pub use limits::{Draw, Limits, Standing};
 pub use memory::OutOfMemory;
-pub use order::{MAX_ORDERS, Order};
+pub use order::{MAX_ORDERS, MAX_SIZES, Order};
 pub use path::Path;
 pub use plan::{Plan, Start};
-pub use prices::Prices;
+pub use prices::{MAX_PRICE, Prices};

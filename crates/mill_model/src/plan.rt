@@ -1,6 +1,6 @@
 ghost use Rattle.std.specs.Prelude.{◌≡◌, ◌<◌, ◌++◌, ◌∷◌, [], ℕ, List, All, IfOk, length};
 ghost use Rattle.mill_model.specs.Numbering.{IsNumbering};
-ghost use Rattle.mill_model.specs.Sets.{different};
+ghost use Rattle.list_laws.specs.Sets.{different};
 ghost use Rattle.mill_model.specs.Tree.{before_first_of, canonical};
 
 use crate::OutOfMemory;

@@ -3,6 +3,9 @@ ghost use Rattle.mill_model.specs.Limits.{IsPrice};
 
 use std::marker::Model;
 
+/// The greatest price, in sixtieths of a loss unit; the least is as far below 0.
+pub const MAX_PRICE: u64 = 20_000_000_000;
+
 /// Prices of the orders from a rank on, in sixtieths of a loss unit.
 #[derive(Debug, Drop)]
 pub struct Prices {

@@ -7,19 +7,19 @@ use Rattle.std.proofs.lemmas.List.Sorted.{IsPermutation-map}
 use Rattle.std.proofs.lemmas.List.{take_more, take_all}
 use Rattle.std.specs.List.{slice_get}
 use Rattle.std.specs.List.Sorted.{IsPermutation, IsSortedBy}
-use Rattle.mill_model.specs.Sets.{times, SameTimes}
-use Rattle.mill_model.specs.Rank.{Placed, is_before, same_order, rank, ranked_orders}
+use Rattle.list_laws.specs.Sets.{times, SameTimes}
+use Rattle.mill_model.specs.Rank.{Placed, is_before, same_order, rank, ranked_orders, precedes}
+use Rattle.mill_model.specs.Rank.{same_placed}
 use Rattle.mill_model.specs.declared.order.Order.{Order}
-use Rattle.mill_laws.proofs.Lists.{and-left, and-right}
-use Rattle.mill_laws.proofs.Different.{either}
-use Rattle.mill_laws.proofs.Ranking.{precedes, Rising, rank-rising}
+use Rattle.list_laws.proofs.Tests.{and-left, and-right, either}
+use Rattle.mill_laws.proofs.Ranking.{rank-rising}
+use Rattle.mill_laws.specs.RankLaws.{Rising}
 use Rattle.mill_laws.proofs.Settle.{put, settle, rises, settle-rises, settle-length, same_order-eq}
 use Rattle.order_symmetry.specs.Numbered.{placed_of, stands_before}
 use Rattle.order_symmetry.specs.Twins.{numbered_by, SortsWithinClasses}
 use Rattle.order_symmetry.specs.declared.numbered.Numbered.{Numbered}
 use Rattle.order_symmetry.proofs.Ranks.{sorted-map}
-use Rattle.order_symmetry.proofs.Sorted.{none-before, none-before-unique, same_placed}
-use Rattle.order_symmetry.proofs.Sorted.{times-permutation}
+use Rattle.order_symmetry.proofs.Sorted.{none-before, none-before-unique, times-permutation}
 
 abbrev pub placed_by : List Order → List ℕ → List Placed
 placed_by orders numbers = map placed_of (numbered_by orders numbers)

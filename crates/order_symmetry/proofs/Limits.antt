@@ -4,14 +4,14 @@ use Rattle.std.proofs.Common.{sym, ap, ◌∙◌, arith, subst}
 use Rattle.std.proofs.lemmas.List.Elements.{recursion_from_All}
 use Rattle.std.specs.List.{AllByRecursion}
 use Rattle.mill_model.specs.Instance.{IsOrder, IsSize, largest}
-use Rattle.mill_model.specs.Rank.{Placed}
+use Rattle.mill_model.specs.Rank.{Placed, placed_from}
 use Rattle.mill_model.specs.declared.order.Order.{Order}
 use Rattle.mill_model.specs.declared.order.TheConstants.{MAX_ORDERS}
 use Rattle.mill_laws.proofs.Ranked.{rank-length}
 use Rattle.order_symmetry.specs.Numbered.{placed_of}
 use Rattle.order_symmetry.specs.Ranked.{RankedOrders, IsRanked}
 use Rattle.order_symmetry.specs.declared.numbered.Numbered.{Numbered}
-use Rattle.order_symmetry.proofs.Ranks.{placed_from, rank-each}
+use Rattle.order_symmetry.proofs.Ranks.{rank-each}
 
 -- what holds of each placed order holds of the one at a rank
 pub each-get : (P : Placed → Type 0) (items : List Numbered) →

@@ -6,22 +6,22 @@ use Rattle.std.proofs.Common.{false-eqb, lt-ltb, get_or-set_same, get_or-set_oth
 use Rattle.std.proofs.lemmas.List.{length-map, length-set, length-replicate, get_or-map}
 use Rattle.std.proofs.lemmas.List.{get_or-replicate, take_more}
 use Rattle.std.specs.List.{AllByRecursion, list_all}
-use Rattle.mill_model.specs.Sets.{each_below}
+use Rattle.list_laws.specs.Sets.{each_below}
 use Rattle.mill_model.specs.Slab.{legal}
 use Rattle.mill_model.specs.Plan.{slab, numbers_each, loss}
-use Rattle.mill_model.specs.Rank.{Placed, rank, ranked_orders, plan_in_rank}
+use Rattle.mill_model.specs.Rank.{Placed, rank, ranked_orders, plan_in_rank, precedes, placed_from}
 use Rattle.mill_model.specs.declared.order.Order.{Order}
-use Rattle.mill_laws.proofs.Lists.{and-left, and-right, last-or-below}
-use Rattle.mill_laws.proofs.Different.{either}
-use Rattle.mill_laws.proofs.Settle.{drop-step}
-use Rattle.mill_laws.proofs.Ranking.{precedes, precedes-self, Rising, rank-rising}
+use Rattle.list_laws.proofs.Tests.{and-left, and-right, last-or-below, either}
+use Rattle.list_laws.proofs.Lists.{drop-step}
+use Rattle.mill_laws.proofs.Ranking.{precedes-self, rank-rising}
+use Rattle.mill_laws.specs.RankLaws.{Rising}
 use Rattle.mill_laws.proofs.Ranked.{get-below, rank-length, ranked-loss, same-legal, same-length}
 use Rattle.order_symmetry.specs.Numbered.{placed_of}
 use Rattle.order_symmetry.specs.Ranked.{RankedOrders, IsPlanOf, homes_of, read_in_rank}
 use Rattle.order_symmetry.specs.declared.numbered.Numbered.{Numbered}
 use Rattle.order_symmetry.proofs.Limits.{each-get}
 use Rattle.order_symmetry.proofs.Places.{orders_in, places_in, place-at}
-use Rattle.order_symmetry.proofs.Ranks.{placed_from, rank-each}
+use Rattle.order_symmetry.proofs.Ranks.{rank-each}
 
 -- no number stands at two places
 abbrev pub Apart : List ℕ → Type 0

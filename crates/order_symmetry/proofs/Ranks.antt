@@ -1,26 +1,23 @@
 -- A file's orders, sorted by the key, are its rank.
-use Rattle.std.proofs.Common.{ℕ, suc, ◌+◌, ◌≡◌, true, false, cond, List, [], ◌∷◌, ◌++◌, map, refl}
-use Rattle.std.proofs.Common.{sym, ap, ◌∙◌, arith, inl, inr, length, get_or, take, ◌<◌}
+use Rattle.std.proofs.Common.{ℕ, suc, ◌+◌, ◌≡◌, true, false, List, [], ◌∷◌, ◌++◌, map, refl}
+use Rattle.std.proofs.Common.{sym, ap, ◌∙◌, arith, length, get_or, take, ◌<◌}
 use Rattle.std.proofs.lemmas.List.Sorted.{IsPermutation-map}
 use Rattle.std.proofs.lemmas.List.{get_or-map, length-map, take_more, length-take, map-append}
 use Rattle.std.specs.List.{AllByRecursion}
 use Rattle.std.specs.List.Sorted.{IsPermutation, IsSortedBy}
-use Rattle.mill_model.specs.Sets.{times, SameTimes}
-use Rattle.mill_model.specs.Rank.{Placed, is_before, put_in_rank, rank_from, rank}
+use Rattle.list_laws.specs.Sets.{times}
+use Rattle.mill_model.specs.Rank.{Placed, rank_from, rank, precedes}
+use Rattle.mill_model.specs.Rank.{same_placed}
 use Rattle.mill_model.specs.declared.order.Order.{Order}
-use Rattle.mill_laws.proofs.Different.{either}
-use Rattle.mill_laws.proofs.Merged.{each-weaker}
-use Rattle.mill_laws.proofs.Ranking.{precedes, Rising, rank-rising, all-put}
+use Rattle.list_laws.proofs.Among.{each-weaker}
+use Rattle.mill_laws.proofs.Ranking.{rank-rising, all-put}
+use Rattle.mill_laws.specs.RankLaws.{Rising}
 use Rattle.order_symmetry.specs.Numbered.{placed_of, stands_before}
 use Rattle.order_symmetry.specs.declared.numbered.Numbered.{Numbered}
 use Rattle.order_symmetry.proofs.Sorted.{NoneBefore, none-before, none-before-unique, one_way}
-use Rattle.order_symmetry.proofs.Sorted.{same_placed, times-permutation}
-
--- the orders of a file from a place on, each with its place
-abbrev pub placed_from : ℕ → List Order → List Placed
-placed_from place [] = []
-placed_from place (order ∷ orders) =
-    record { order = order; place = place } ∷ placed_from (suc place) orders
+use Rattle.order_symmetry.proofs.Sorted.{times-permutation}
+use Rattle.mill_model.specs.Rank.{placed_from}
+use Rattle.mill_laws.proofs.Ranking.{rank-times}
 
 pub placed_from-append : (k : ℕ) (xs ys : List Order) →
     placed_from k (xs ++ ys) ≡ placed_from k xs ++ placed_from (k + length xs) ys
@@ -50,24 +47,6 @@ rank-each P k [] h = tt
 rank-each P k (order ∷ orders) h =
     all-put P (record { order = order; place = k }) (rank_from (suc k) orders) h.0
     (rank-each P (suc k) orders h.1)
-
--- the rank has the file's orders at their places
-put-times : (x new : Placed) (xs : List Placed) →
-    times same_placed x (put_in_rank new xs) ≡ times same_placed x (new ∷ xs)
-put-times x new [] = refl
-put-times x new (y ∷ xs) = elim (either (is_before y.order new.order)) [
-  | inl e ↦ (let ih : times same_placed x (put_in_rank new xs) ≡ times same_placed x (new ∷ xs) =
-      put-times x new xs in rw e (omega arith))
-  | inr e ↦ rw e refl
-]
-
-rank-times : (k : ℕ) (orders : List Order) →
-    SameTimes same_placed (rank_from k orders) (placed_from k orders)
-rank-times k [] x = refl
-rank-times k (order ∷ orders) x =
-    put-times x (record { order = order; place = k }) (rank_from (suc k) orders)
-    ∙ ap (λ n. cond (same_placed x (record { order = order; place = k })) 1 0 + n)
-    (rank-times (suc k) orders x)
 
 -- and none stands before an earlier one
 rising-none : (xs : List Placed) → Rising xs → NoneBefore xs

@@ -1,6 +1,6 @@
 -- Placed orders, sorted: one list has the same things in this order.
-use Rattle.std.proofs.Common.{ℕ, suc, ◌+◌, ◌<◌, ◌≡◌, ◌⊎◌, Bool, true, false, cond, ◌&&◌, List, []}
-use Rattle.std.proofs.Common.{◌∷◌, eqb, refl, sym, ap, ap₂, ◌∙◌, arith, inl, inr, eqb-true, eq-eqb}
+use Rattle.std.proofs.Common.{ℕ, suc, ◌+◌, ◌<◌, ◌≡◌, ◌⊎◌, true, false, cond, List, []}
+use Rattle.std.proofs.Common.{◌∷◌, refl, sym, ap, ap₂, ◌∙◌, arith, inl, inr}
 use Rattle.std.proofs.lemmas.Bool.Decides.{nat_tests}
 use Rattle.std.proofs.lemmas.List.Sorted.{sorted_far, sum_by-IsPermutation}
 use Rattle.std.proofs.lemmas.List.Sums.{sum_by-cons}
@@ -8,11 +8,12 @@ use Rattle.std.proofs.lemmas.List.Elements.{recursion_from_All}
 use Rattle.std.specs.Cmp.{IsStrictWeakOrder}
 use Rattle.std.specs.List.{AllByRecursion, sum_by}
 use Rattle.std.specs.List.Sorted.{IsPermutation, IsSortedBy}
-use Rattle.mill_model.specs.Sets.{times, SameTimes}
-use Rattle.mill_model.specs.Rank.{Placed, same_order}
-use Rattle.mill_laws.proofs.Lists.{Among, each-at, and-left, and-right, times-pos, times-among}
-use Rattle.mill_laws.proofs.Settle.{same_order-eq}
-use Rattle.mill_laws.proofs.Ranking.{precedes}
+use Rattle.list_laws.specs.Sets.{times, SameTimes}
+use Rattle.mill_model.specs.Rank.{Placed}
+use Rattle.list_laws.proofs.Among.{Among, each-at}
+use Rattle.list_laws.proofs.Times.{times-pos, times-among}
+use Rattle.mill_model.specs.Rank.{precedes, same_placed}
+use Rattle.mill_laws.proofs.Ranking.{same_placed-refl, same_placed-eq}
 
 pub one_way : (x y : Placed) → precedes x y ≡ true → precedes y x ≡ false
 one_way x y h = grind (arith, nat_tests)
@@ -57,36 +58,18 @@ none-before (x ∷ xs) up = (
       let u = up (suc k) d (omega arith) (omega arith) in rw e at u),
 )
 
--- whether two are one order at one place
-abbrev pub same_placed : Placed → Placed → Bool
-same_placed x y = same_order x.order y.order && eqb x.place y.place
-
-pub same_placed-self : (x : Placed) → same_placed x x ≡ true
-same_placed-self x =
-    rw (
-      eq-eqb x.order.weight x.order.weight refl,
-      eq-eqb x.order.colour x.order.colour refl,
-      eq-eqb x.place x.place refl,
-    )
-
-pub same_placed-eq : (x y : Placed) → same_placed x y ≡ true → x ≡ y
-same_placed-eq x y h =
-    let o = same_order-eq x.order y.order (and-left (same_order x.order y.order) _ h) in
-    let p = eqb-true _ _ (and-right (same_order x.order y.order) _ h) in
-    λ i. record { order = o i; place = p i }
-
 -- two such lists of the same things, each as often, are one
 pub none-before-unique : (xs ys : List Placed) → NoneBefore xs → NoneBefore ys →
     SameTimes same_placed xs ys → xs ≡ ys
 none-before-unique [] [] a b same = refl
 none-before-unique [] (y ∷ ys) a b same =
     let h : 0 < times same_placed y (y ∷ ys) =
-    times-pos same_placed same_placed-self y (y ∷ ys) (inl refl) in
+    times-pos same_placed same_placed-refl y (y ∷ ys) (inl refl) in
     let e : times same_placed y [] ≡ times same_placed y (y ∷ ys) = same y in
     absurd (omega arith)
 none-before-unique (x ∷ xs) [] a b same =
     let h : 0 < times same_placed x (x ∷ xs) =
-    times-pos same_placed same_placed-self x (x ∷ xs) (inl refl) in
+    times-pos same_placed same_placed-refl x (x ∷ xs) (inl refl) in
     let e : times same_placed x (x ∷ xs) ≡ times same_placed x [] = same x in
     absurd (omega arith)
 none-before-unique (x ∷ xs) (y ∷ ys) a b same =
@@ -95,7 +78,7 @@ none-before-unique (x ∷ xs) (y ∷ ys) a b same =
     in-other : (z : Placed) (vs ws : List Placed) → SameTimes same_placed vs ws → Among z vs →
         Among z ws
     in-other z vs ws s i =
-        let h : 0 < times same_placed z vs = times-pos same_placed same_placed-self z vs i in
+        let h : 0 < times same_placed z vs = times-pos same_placed same_placed-refl z vs i in
         let e : times same_placed z vs ≡ times same_placed z ws = s z in
         times-among same_placed same_placed-eq z ws (omega arith)
 

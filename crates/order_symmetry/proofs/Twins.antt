@@ -10,20 +10,22 @@ use Rattle.std.proofs.lemmas.List.Elements.{All-from_recursion, recursion_from_A
 use Rattle.std.proofs.lemmas.List.Sorted.{All-permutation}
 use Rattle.std.proofs.Math.Seq.{drop-cons}
 use Rattle.std.proofs.lemmas.List.{drop_all, length-map}
-use Rattle.mill_model.specs.Sets.{holds}
+use Rattle.list_laws.specs.Sets.{holds}
 use Rattle.mill_model.specs.Slab.{load}
 use Rattle.mill_model.specs.Plan.{slab, numbers_each}
 use Rattle.mill_model.specs.Rank.{Placed, is_before, same_order, put_in_rank, rank_from, rank}
 use Rattle.mill_model.specs.Rank.{ranked_orders, plan_in_rank}
 use Rattle.mill_model.specs.Tree.{next_new, canonical}
 use Rattle.mill_model.specs.declared.order.Order.{Order}
-use Rattle.mill_laws.proofs.Lists.{and-left, and-right, all-map, total-cong, numbers-below}
-use Rattle.mill_laws.proofs.Different.{either, or-cases, or-left, or-right}
-use Rattle.mill_laws.proofs.Canonical.{by_last, by_last-map, place, place-eqb, total-by_last}
-use Rattle.mill_laws.proofs.Canonical.{slab-renamed, canonical-grows, canonical-numbers}
-use Rattle.mill_laws.proofs.Canonical.{next_new-le}
+use Rattle.list_laws.proofs.Tests.{and-left, and-right, either, or-cases, or-left, or-right}
+use Rattle.list_laws.proofs.Among.{all-map}
+use Rattle.list_laws.proofs.Sums.{total-cong}
+use Rattle.mill_laws.proofs.Groups.{numbers-below, next_new-le}
+use Rattle.mill_laws.proofs.Canonical.{place, place-eqb, slab-renamed, canonical-grows}
+use Rattle.mill_laws.proofs.Canonical.{canonical-numbers}
+use Rattle.list_laws.proofs.LastPlaces.{by_last, by_last-map, total-by_last}
 use Rattle.mill_laws.proofs.Forms.{canonical-same}
-use Rattle.mill_laws.proofs.Mated.{colours_of}
+use Rattle.mill_model.proofs.Slabs.{colours_of}
 use Rattle.mill_laws.proofs.Ranked.{rank-load, rank-colour, rank-length, ranked-each, get-below}
 use Rattle.mill_laws.proofs.Ranked.{long, same-length}
 use Rattle.mill_laws.proofs.Settle.{put, settle, settle-chosen, settle-grows, settle-rises, rises}

@@ -3,7 +3,7 @@ use Rattle.std.specs.Prelude.{ℕ, suc, ◌<◌, ◌≤◌, ◌≡◌, Bool, tru
 use Rattle.std.specs.Prelude.{map, length, eqb, slice_index}
 use Rattle.std.specs.List.{list_all}
 use Rattle.std.specs.List.Sorted.{IsPermutation, IsSortedBy}
-use Rattle.mill_model.specs.Sets.{holds, total}
+use Rattle.list_laws.specs.Sets.{holds, total}
 use Rattle.mill_model.specs.Slab.{load}
 use Rattle.mill_model.specs.Plan.{slab, numbers_each}
 use Rattle.mill_model.specs.Rank.{ranked_orders, plan_in_rank, starts_class_in}

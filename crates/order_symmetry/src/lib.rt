@@ -7,5 +7,6 @@ mod numbered;
 mod ranked;
 #[cfg(test)]
 mod tests;
+mod threads;
 
 pub use ranked::Ranked;

@@ -1,6 +1,7 @@
 //! Each call once, on orders that are in rank in another way than in the file.
 
 ghost use Rattle.std.specs.Prelude.{◌≤◌, length};
+ghost use Rattle.mill_model.specs.declared.order.TheConstants.{MAX_ORDERS};
 
 use super::*;
 use crate::laws::sorted_twin;
@@ -12,7 +13,7 @@ use std::test::Fail;
 fn instance_of(alloc: Global, size: u32, orders: &[(u32, u16)]) -> Result<Instance, OutOfMemory>
     requires some { 1 ≤ size }
     requires size { size ≤ 20000 }
-    requires few { length orders.now ≤ 1024 }
+    requires few { length orders.now ≤ MAX_ORDERS }
 {
     let mut list = Vec::with_capacity(alloc, orders.len())?;
     for &(weight, colour) in orders {

@@ -1,13 +1,13 @@
 -- How many colours stand beside each slab, pair by pair.
-use Rattle.std.proofs.Common.{ℕ, zero, suc, ◌+◌, ◌<◌, ◌≤◌, ◌≡◌, Bool, cond, List, []}
-use Rattle.std.proofs.Common.{◌∷◌, map, length, take, get_or, set, eqb, sym, ◌∙◌}
-use Rattle.std.proofs.Common.{arith, inl, inr, eqb-true, false-eqb, get_or-set_same}
-use Rattle.std.proofs.Common.{get_or-set_other}
+use Rattle.std.proofs.Common.{ℕ, zero, suc, ◌+◌, ◌<◌, ◌≤◌, ◌≡◌, Bool, cond, List, [], ◌∷◌, map}
+use Rattle.std.proofs.Common.{length, take, get_or, set, eqb, sym, ◌∙◌, arith, inl, inr, eqb-true}
+use Rattle.std.proofs.Common.{false-eqb, get_or-set_same, get_or-set_other}
 use Rattle.std.specs.Prelude.{All}
 use Rattle.std.proofs.lemmas.List.{length-set, get_or_default}
 use Rattle.mill_model.specs.Slab.{colours}
 use Rattle.mill_model.specs.declared.order.Order.{Order}
-use Rattle.mill_laws.proofs.Different.{either, different-same}
+use Rattle.list_laws.proofs.Tests.{either}
+use Rattle.list_laws.proofs.Different.{different-same}
 use Rattle.plan_check.specs.Tallies.{colours_on, HasColoursOnce}
 
 -- one more where a pair is a slab's

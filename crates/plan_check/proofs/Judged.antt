@@ -1,13 +1,15 @@
 -- What is found of a plan, slab by slab, and the verdict on it.
-use Rattle.std.proofs.Common.{ℕ, ◌*◌, ◌<◌, ◌≤◌, ◌≡◌, ◌↔◌, Bool, true, false, ◌&&◌}
-use Rattle.std.proofs.Common.{List, length, leb, refl, sym, ap, ◌∙◌, arith, inl, inr}
+use Rattle.std.proofs.Common.{ℕ, ◌*◌, ◌<◌, ◌≤◌, ◌≡◌, ◌↔◌, Bool, true, false, ◌&&◌, List, length}
+use Rattle.std.proofs.Common.{leb, refl, sym, ap, ◌∙◌, arith, inl, inr}
 use Rattle.std.proofs.lemmas.Bool.{lt-leb, cases_lt}
-use Rattle.mill_model.specs.Sets.{total}
+use Rattle.list_laws.specs.Sets.{total}
 use Rattle.mill_model.specs.Slab.{Mill, load, colours, legal}
 use Rattle.mill_model.specs.Plan.{numbers_each, slab, IsLegalPlan}
 use Rattle.mill_model.specs.declared.order.Order.{Order}
-use Rattle.mill_laws.proofs.Lists.{each_below-at, each_below-from}
-use Rattle.plan_check.specs.Verdicts.{IsLegal, IsLowestWrong, IsHeavy, IsColourful}
+use Rattle.list_laws.proofs.Tests.{clash, lowest-once}
+use Rattle.list_laws.proofs.Sums.{each_below-at, each_below-from}
+use Rattle.mill_model.specs.Plan.{IsPlanWithLoss}
+use Rattle.plan_check.specs.Verdicts.{IsLowestWrong, IsHeavy, IsColourful}
 use Rattle.plan_check.specs.declared.verdict.Verdict.{Verdict}
 use Rattle.plan_check.specs.declared.verdict.Verdict.TheVariants.{Legal, Heavy, Colourful}
 
@@ -38,29 +40,22 @@ pub record IsSoFar (mill : Mill) (charge : ℕ → ℕ) (orders : List Order) (p
 -- all slabs are legal
 pub legal-found : (mill : Mill) (charge : ℕ → ℕ) (orders : List Order) (plan : List ℕ) (lost : ℕ) →
     numbers_each plan orders ≡ true → IsSoFar mill charge orders plan (length orders) lost →
-    IsLegal mill charge orders plan lost
+    IsPlanWithLoss mill charge orders plan lost
 legal-found mill charge orders plan lost each all = record {
-  is_legal = record {
+  legal = record {
     each = each;
     slabs = each_below-from (length orders) (λ s. legal mill (slab s plan orders)) all.are_legal;
   };
-  loses = all.sum;
+  loses = sym all.sum;
 }
-
--- no test is both
-clash : (b : Bool) → b ≡ true → b ≡ false → ⊥
-clash b is isn't = absurd (cc)
 
 -- the one lowest slab that isn't legal
 same-lowest : (mill : Mill) (orders : List Order) (plan : List ℕ) (s t : ℕ) →
     IsLowestWrong mill orders plan s → IsLowestWrong mill orders plan t → s ≡ t
-same-lowest mill orders plan s t one other = elim (cases_lt s t) [
-  | inl l ↦ absurd (clash (legal mill (slab s plan orders)) (other.lowest s l) one.wrong)
-  | inr l ↦ elim (cases_lt t s) [
-    | inl k ↦ absurd (clash (legal mill (slab t plan orders)) (one.lowest t k) other.wrong)
-    | inr k ↦ omega arith
-  ]
-]
+same-lowest mill orders plan s t one other =
+    lowest-once (λ u. legal mill (slab u plan orders) ≡ false) s t one.wrong
+    (λ u l e. clash (legal mill (slab u plan orders)) (one.lowest u l) e) other.wrong
+    (λ u l e. clash (legal mill (slab u plan orders)) (other.lowest u l) e)
 
 -- a legal plan has none
 none-wrong : (mill : Mill) (orders : List Order) (plan : List ℕ) (s : ℕ) →
@@ -103,26 +98,26 @@ colourful-found mill charge orders plan i lost count before within light counts 
 -- what the clauses on a verdict say
 pub record IsJudged (mill : Mill) (charge : ℕ → ℕ) (orders : List Order) (plan : List ℕ)
     (verdict : Verdict) : Type 0 where
-  pub is_legal : (lost : ℕ) → (verdict ≡ Legal lost) ↔ IsLegal mill charge orders plan lost
+  pub is_legal : (lost : ℕ) → (verdict ≡ Legal lost) ↔ IsPlanWithLoss mill charge orders plan lost
   pub is_heavy : (s weight : ℕ) → (verdict ≡ Heavy s weight) ↔ IsHeavy mill orders plan s weight
   pub is_colourful : (s count : ℕ) → (verdict ≡ Colourful s count)
       ↔ IsColourful mill orders plan s count
 
 -- a plan that is found legal is nothing else
 pub legal-judged : (mill : Mill) (charge : ℕ → ℕ) (orders : List Order) (plan : List ℕ) (lost : ℕ) →
-    IsLegal mill charge orders plan lost → IsJudged mill charge orders plan (Legal lost)
+    IsPlanWithLoss mill charge orders plan lost → IsJudged mill charge orders plan (Legal lost)
 legal-judged mill charge orders plan lost is = record {
   is_legal = λ other. (
     λ e. (let same : lost ≡ other = cc in rw (← same) is),
-    λ has. ap Legal (is.loses ∙ sym has.loses),
+    λ has. ap Legal (sym is.loses ∙ has.loses),
   );
   is_heavy = λ s weight. (
     λ e. absurd (cc),
-    λ has. absurd (none-wrong mill orders plan s is.is_legal has.lowest_wrong),
+    λ has. absurd (none-wrong mill orders plan s is.legal has.lowest_wrong),
   );
   is_colourful = λ s count. (
     λ e. absurd (cc),
-    λ has. absurd (none-wrong mill orders plan s is.is_legal has.lowest_wrong),
+    λ has. absurd (none-wrong mill orders plan s is.legal has.lowest_wrong),
   );
 }
 
@@ -133,7 +128,7 @@ pub heavy-judged : (mill : Mill) (charge : ℕ → ℕ) (orders : List Order) (p
 heavy-judged mill charge orders plan s weight is = record {
   is_legal = λ lost. (
     λ e. absurd (cc),
-    λ has. absurd (none-wrong mill orders plan s has.is_legal is.lowest_wrong),
+    λ has. absurd (none-wrong mill orders plan s has.legal is.lowest_wrong),
   );
   is_heavy = λ t other. (
     λ e. (let number : s ≡ t = cc in let same : weight ≡ other = cc in rw (← number, ← same) is),
@@ -159,7 +154,7 @@ pub colourful-judged : (mill : Mill) (charge : ℕ → ℕ) (orders : List Order
 colourful-judged mill charge orders plan s count is = record {
   is_legal = λ lost. (
     λ e. absurd (cc),
-    λ has. absurd (none-wrong mill orders plan s has.is_legal is.lowest_wrong),
+    λ has. absurd (none-wrong mill orders plan s has.legal is.lowest_wrong),
   );
   is_heavy = λ t weight. (
     λ e. absurd (cc),

@@ -1,8 +1,8 @@
 -- The slabs of a plan's first orders, and what one more order makes of them.
-use Rattle.std.proofs.Common.{ℕ, zero, suc, ◌+◌, ◌*◌, ◌<◌, ◌≤◌, ◌≡◌, Bool, true, cond, List}
-use Rattle.std.proofs.Common.{[], ◌∷◌, ◌++◌, length, take, get_or, set, eqb, ltb, refl, sym, ap}
-use Rattle.std.proofs.Common.{◌∙◌, arith, inl, inr, eqb-true, false-eqb, ltb-true}
-use Rattle.std.proofs.Common.{get_or-set_same, get_or-set_other}
+use Rattle.std.proofs.Common.{ℕ, zero, suc, ◌+◌, ◌*◌, ◌<◌, ◌≤◌, ◌≡◌, Bool, true, cond, List, []}
+use Rattle.std.proofs.Common.{◌∷◌, ◌++◌, length, take, get_or, set, eqb, ltb, refl, sym, ap, ◌∙◌}
+use Rattle.std.proofs.Common.{arith, inl, inr, eqb-true, false-eqb, ltb-true, get_or-set_same}
+use Rattle.std.proofs.Common.{get_or-set_other}
 use Rattle.std.specs.Prelude.{All}
 use Rattle.std.specs.List.{list_all}
 use Rattle.std.proofs.lemmas.List.{length-set, get_or_default}
@@ -10,9 +10,8 @@ use Rattle.mill_model.specs.Instance.{IsOrder}
 use Rattle.mill_model.specs.Slab.{load}
 use Rattle.mill_model.specs.Plan.{numbers_each, slab}
 use Rattle.mill_model.specs.declared.order.Order.{Order}
-use Rattle.mill_model.proofs.Different.{either}
-use Rattle.mill_laws.proofs.Lists.{and-left, and-right}
-use Rattle.mill_laws.proofs.Different.{load-append}
+use Rattle.list_laws.proofs.Tests.{either, and-left, and-right}
+use Rattle.mill_model.proofs.Slabs.{load-append}
 
 -- the order where it goes on the slab, else nothing
 abbrev if_on : Bool → Order → List Order

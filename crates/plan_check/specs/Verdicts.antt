@@ -1,14 +1,8 @@
 -- What a verdict on a plan says.
 use Rattle.std.specs.Prelude.{ℕ, ◌≡◌, ◌<◌, ◌≤◌, true, false, List, length}
 use Rattle.mill_model.specs.Slab.{Mill, load, colours, legal}
-use Rattle.mill_model.specs.Plan.{slab, loss, IsLegalPlan}
+use Rattle.mill_model.specs.Plan.{slab}
 use Rattle.mill_model.specs.declared.order.Order.{Order}
-
--- the plan is legal, and this is its loss
-pub record IsLegal (mill : Mill) (charge : ℕ → ℕ) (orders : List Order) (plan : List ℕ)
-    (lost : ℕ) : Type 0 where
-  pub is_legal : IsLegalPlan mill orders plan
-  pub loses : lost ≡ loss charge plan orders
 
 -- slab s isn't legal, and each lower one is
 pub record IsLowestWrong (mill : Mill) (orders : List Order) (plan : List ℕ) (s : ℕ) : Type 0 where

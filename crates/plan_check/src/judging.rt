@@ -1,7 +1,8 @@
-ghost use Rattle.std.specs.Prelude.{◌≡◌, ◌+◌, ◌↔◌, ℕ, true, IfOk, length, slice_index};
-ghost use Rattle.mill_model.specs.Instance.{largest, mill_of};
-ghost use Rattle.mill_model.specs.Plan.{numbers_each};
-ghost use Rattle.plan_check.specs.Verdicts.{IsLegal, IsHeavy, IsColourful};
+ghost use Rattle.std.specs.Prelude.{◌≡◌, ◌↔◌, ℕ, true, IfOk};
+ghost use Rattle.mill_model.specs.Charges.{Reaches, charge_of};
+ghost use Rattle.mill_model.specs.Instance.{mill_of};
+ghost use Rattle.mill_model.specs.Plan.{IsPlanWithLoss, numbers_each};
+ghost use Rattle.plan_check.specs.Verdicts.{IsHeavy, IsColourful};
 
 use crate::Verdict;
 use crate::tallies::{colour_counts, slab_loads};
@@ -16,9 +17,9 @@ pub fn judge(
     plan: &Plan,
 ) -> Result<Verdict, OutOfMemory>
     requires each { numbers_each plan.now instance.now.orders ≡ true }
-    requires reach { length charges.now ≡ largest instance.now.sizes + 1 }
+    requires reach { Reaches charges.now (mill_of instance.now) }
     ensures legal { IfOk result (λ verdict. (loss : ℕ) → (verdict ≡ Verdict.Legal loss)
-        ↔ IsLegal (mill_of instance.now) (λ l. slice_index charges.now l)
+        ↔ IsPlanWithLoss (mill_of instance.now) (charge_of charges.now)
         instance.now.orders plan.now loss) }
     ensures heavy { IfOk result (λ verdict. (slab load : ℕ) → (verdict ≡ Verdict.Heavy slab load)
         ↔ IsHeavy (mill_of instance.now) instance.now.orders plan.now slab load) }

@@ -9,4 +9,5 @@ mod tests;
 mod verdict;
 
 pub use judging::judge;
+pub use tallies::slab_loads;
 pub use verdict::Verdict;

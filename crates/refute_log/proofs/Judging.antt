@@ -13,7 +13,7 @@ use Rattle.refute_log.specs.Fits.{fits}
 use Rattle.refute_log.specs.Text.{record_words, record_line, log_lines, first_line, BeginsLog}
 use Rattle.refute_log.specs.Judged.{LacksRecord, IsNotRising}
 use Rattle.refute_log.proofs.RecordLines.{words-record, line-from_words}
-use Rattle.refute_log.proofs.Rises.{recorded-append}
+use Rattle.mill_model.proofs.Records.{recorded-append}
 
 -- the place of a line is below the number of lines
 pub first_filled-below : (lines : List (List ℕ)) (place : ℕ) → first_filled lines ≡ Some place

@@ -1,26 +1,16 @@
 -- The order of paths: strict, total, and what `compare` answers.
-use Rattle.std.proofs.Common.{ℕ, ◌<◌, ◌≡◌, ◌⊎◌, Bool, true, false, ◌&&◌, ◌||◌, List, [], ◌∷◌}
-use Rattle.std.proofs.Common.{◌++◌, eqb, ltb, refl, sym, ◌∙◌, subst, arith, inl, inr, eqb-true}
-use Rattle.std.proofs.Common.{eq-eqb, ltb-true, lt-ltb, le-ltb}
+use Rattle.std.proofs.Common.{ℕ, ◌<◌, ◌≡◌, ◌⊎◌, Bool, true, false, ◌&&◌, ◌||◌, List, [], ◌∷◌, ◌++◌}
+use Rattle.std.proofs.Common.{eqb, ltb, refl, sym, ◌∙◌, subst, arith, inl, inr, eqb-true, eq-eqb}
+use Rattle.std.proofs.Common.{lt-ltb, le-ltb}
 use Rattle.std.proofs.lemmas.Bool.{cases_Bool, and_parts}
 use Rattle.std.proofs.lemmas.Bool.Decides.{nat_tests}
 use Rattle.std.specs.Prelude.{◌==◌}
 use Rattle.std.specs.Ordering.{ordering_index}
 use Rattle.std.specs.declared.cmp.Ordering.{Ordering}
 use Rattle.std.specs.declared.cmp.Ordering.TheVariants as order
-use Rattle.mill_model.specs.Sets.{same_list}
+use Rattle.list_laws.proofs.Tests.{head-cases}
+use Rattle.list_laws.specs.Sets.{same_list}
 use Rattle.refute_log.specs.Rising.{comes_before, path_order}
-
--- how the heads of two paths that are in order compare
-head-cases : (g h : ℕ) (b : Bool) → (ltb g h || (eqb g h && b)) ≡ true
-    → (g < h) ⊎ ((g ≡ h) × (b ≡ true))
-head-cases g h b e = elim (cases_Bool (ltb g h)) [
-  | inl l ↦ inl (ltb-true g h l)
-  | inr l ↦ (
-      let k : (eqb g h && b) ≡ true = rw l at e in
-      let p = and_parts (eqb g h) b k in inr (eqb-true g h p.0, p.1)
-      )
-]
 
 pub head-less : (g h : ℕ) (b : Bool) → g < h → (ltb g h || (eqb g h && b)) ≡ true
 head-less g h b l = let e : ltb g h ≡ true = lt-ltb g h l in rw e refl

@@ -10,10 +10,6 @@ use Rattle.mill_model.specs.declared.closing.Entry.{Entry}
 use Rattle.refute_log.specs.Rising.{comes_before, rises}
 use Rattle.refute_log.proofs.Order.{before-trans}
 
-pub recorded-append : (es fs : List Entry) → recorded (es ++ fs) ≡ recorded es ++ recorded fs
-recorded-append [] fs = refl
-recorded-append (e ∷ es) fs = ap (λ ps. e.path ∷ ps) (recorded-append es fs)
-
 -- what a list begins with passes where all of it does
 list_all-front : (test : List ℕ → Bool) (ps qs : List (List ℕ))
     → list_all test (ps ++ qs) ≡ true → list_all test ps ≡ true

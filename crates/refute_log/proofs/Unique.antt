@@ -1,9 +1,8 @@
 -- The lines of a text have one answer: what an answer says of them is said by no other.
-use Rattle.std.proofs.Common.{ℕ, ◌+◌, ◌^◌, ◌<◌, ◌≤◌, ◌≡◌, ◌≢◌, ◌⊎◌, inl, inr, true}
-use Rattle.std.proofs.Common.{false, List, [], ◌∷◌, ◌++◌, map, length, All, ℤ, pos, negsuc, cond}
-use Rattle.std.proofs.Common.{Option, Some, None, Result, Ok, Err, eqb, leb, ltb, refl, sym, ap}
-use Rattle.std.proofs.Common.{ap₂}
-use Rattle.std.proofs.Common.{◌∙◌, subst, arith, leb-true, ne_eqb, eq-eqb, append_assoc, get_or}
+use Rattle.std.proofs.Common.{ℕ, ◌+◌, ◌^◌, ◌<◌, ◌≤◌, ◌≡◌, ◌≢◌, ◌⊎◌, inl, inr, true, false, List, []}
+use Rattle.std.proofs.Common.{◌∷◌, ◌++◌, map, length, All, ℤ, pos, negsuc, cond, Option, Some, None}
+use Rattle.std.proofs.Common.{Result, Ok, Err, eqb, leb, ltb, refl, sym, ap, ap₂, ◌∙◌, subst, arith}
+use Rattle.std.proofs.Common.{leb-true, ne_eqb, eq-eqb, append_assoc, get_or}
 use Rattle.std.proofs.lemmas.Bool.{and_parts, both_ways}
 use Rattle.std.proofs.lemmas.Fmt.{decimal_injective, signed_decimal_injective}
 use Rattle.std.proofs.lemmas.Int.{ints}
@@ -32,7 +31,8 @@ use Rattle.refute_log.specs.declared.error.LogTextError.TheVariants.{CountDiffer
 use Rattle.refute_log.proofs.RecordLines.{path-numbers, price-numbers, words-record}
 use Rattle.refute_log.proofs.RecordLines.{words-first_line, record-is_no_end}
 use Rattle.refute_log.proofs.Reading.{spelled, same-front, length-ordinals}
-use Rattle.refute_log.proofs.Rises.{recorded-append, rises-front}
+use Rattle.refute_log.proofs.Rises.{rises-front}
+use Rattle.mill_model.proofs.Records.{recorded-append}
 
 mag-small : (x : ℤ) → IsWithin 20000000000 x → mag x < 2 ^ 63
 mag-small (pos n) w = omega (arith, ints)

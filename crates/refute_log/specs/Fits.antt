@@ -2,6 +2,7 @@
 use Rattle.std.specs.Prelude.{ℕ, ◌+◌, Bool, true, ◌&&◌, List, length, eqb, leb, ltb}
 use Rattle.std.specs.Prelude.{ℤ, pos, ◌-ℤ◌, int_le}
 use Rattle.std.specs.List.{list_all}
+use Rattle.mill_model.specs.declared.prices.TheConstants.{MAX_PRICE}
 use Rattle.mill_model.specs.declared.closing.Entry.{Entry}
 use Rattle.mill_model.specs.declared.closing.Closing.{Closing}
 use Rattle.mill_model.specs.declared.closing.Closing.TheVariants.{Split, Leaf, Priced, Dominated}
@@ -10,9 +11,9 @@ use Rattle.mill_model.specs.declared.closing.Closing.TheVariants.{Split, Leaf, P
 abbrev pub path_fits : ℕ → List ℕ → Bool
 path_fits n path = leb (length path) n && list_all (λ g. ltb g n) path
 
--- whether a number may be a price: from -20,000,000,000 to 20,000,000,000
+-- whether a number may be a price
 abbrev pub price_fits : ℤ → Bool
-price_fits y = int_le (pos 0 -ℤ pos 20000000000) y && int_le y (pos 20000000000)
+price_fits y = int_le (pos 0 -ℤ pos MAX_PRICE) y && int_le y (pos MAX_PRICE)
 
 -- whether a path of this length may be closed so: by a price for each further order, or by another
 -- path of the same length

@@ -5,6 +5,7 @@ use Rattle.line_text.specs.Lines.{is_end, first_filled}
 use Rattle.line_text.specs.Words.{BeginsWith}
 use Rattle.mill_model.specs.Log.{recorded}
 use Rattle.mill_model.specs.declared.closing.Entry.{Entry}
+use Rattle.mill_model.specs.Exactly.{ComesExactly}
 use Rattle.refute_log.specs.Rising.{rises}
 use Rattle.refute_log.specs.Fits.{fits}
 use Rattle.refute_log.specs.Logged.{Logged}
@@ -80,6 +81,5 @@ Says orders first lines (Err (CountDiffers stated found)) = CountIsOther orders 
 Says orders first lines (Err OutOfMemory) = Unit {0}
 
 -- an answer comes exactly where a fact holds, but for want of memory
-pub record ComesWhere (result answer : Result Logged LogTextError) (fact : Type 0) : Type 0 where
-  pub only : result ≡ answer → fact
-  pub always : fact → (result ≡ answer) ⊎ (result ≡ Err OutOfMemory)
+abbrev pub ComesWhere : Result Logged LogTextError → Result Logged LogTextError → Type 0 → Type 0
+ComesWhere result answer fact = ComesExactly OutOfMemory result answer fact

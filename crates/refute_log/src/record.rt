@@ -6,11 +6,8 @@ ghost use Rattle.refute_log.specs.Fits.{fits, closing_fits};
 ghost use Rattle.refute_log.specs.Text.{letter_of, closing_words, record_words};
 
 use line_text::Words;
-use mill_model::{Closing, Entry, OutOfMemory, Path, Prices};
+use mill_model::{Closing, Entry, MAX_PRICE, OutOfMemory, Path, Prices};
 use std::alloc::Global;
-
-/// The greatest price, and the least but for its sign.
-const MAX_PRICE: u64 = 20_000_000_000;
 
 /// The record that a line stands for, if it stands for one.
 pub fn record_on(alloc: Global, orders: u16, line: &[u8]) -> Result<Option<Entry>, OutOfMemory>

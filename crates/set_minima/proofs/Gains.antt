@@ -1,13 +1,12 @@
 -- The greatest gain of the sets of a table, one load more at a time, and how large it can be.
-use Rattle.std.proofs.Common.{ℕ, suc, ◌+◌, ◌-◌, ◌*◌, ◌<◌, ◌≤◌, ◌≡◌, Bool, true, false, List}
-use Rattle.std.proofs.Common.{[]}
-use Rattle.std.proofs.Common.{◌∷◌, length, get_or, ℤ, pos, ◌+ℤ◌, ◌-ℤ◌, ◌≤ℤ◌, neg_ℤ, Option}
-use Rattle.std.proofs.Common.{None, refl, sym, ap, subst, arith, inl, inr}
+use Rattle.std.proofs.Common.{ℕ, suc, ◌+◌, ◌-◌, ◌*◌, ◌<◌, ◌≤◌, ◌≡◌, Bool, true, false, List, []}
+use Rattle.std.proofs.Common.{◌∷◌, length, get_or, ℤ, pos, ◌+ℤ◌, ◌-ℤ◌, ◌≤ℤ◌, neg_ℤ, Option, None}
+use Rattle.std.proofs.Common.{refl, sym, ap, subst, arith, inl, inr}
 use Rattle.std.proofs.lemmas.Int.{ints}
-use Rattle.mill_model.specs.Sets.{chosen, int_sum}
+use Rattle.list_laws.specs.Sets.{chosen, int_sum}
 use Rattle.mill_model.specs.Slab.{load}
 use Rattle.mill_model.specs.declared.order.Order.{Order}
-use Rattle.mill_laws.proofs.Lists.{last-or-below}
+use Rattle.list_laws.proofs.Tests.{last-or-below}
 use Rattle.set_minima.specs.Packs.{Packs, IsTop, IsBest, better, with_price}
 use Rattle.set_minima.specs.Joins.{gain, Joins, Packed}
 use Rattle.set_minima.proofs.Tops.{none-some, top-same, top-union, top-value}

@@ -1,23 +1,21 @@
 -- What of a group its least slack depends on, and the least slack where no order may join.
-use Rattle.std.proofs.Common.{ℕ, ◌+◌, ◌*◌, ◌≤◌, ◌≡◌, Bool, true, false, ◌&&◌, List, []}
-use Rattle.std.proofs.Common.{◌∷◌}
-use Rattle.std.proofs.Common.{◌++◌, map, filter, length, ℤ, pos, ◌-ℤ◌, int_le, refl, sym, ap, ap₂}
-use Rattle.std.proofs.Common.{◌∙◌, subst, arith, inl, inr, append-nil, cond, eqb, eqb-true}
+use Rattle.std.proofs.Common.{ℕ, ◌+◌, ◌*◌, ◌≤◌, ◌≡◌, Bool, true, false, ◌&&◌, List, [], ◌∷◌, ◌++◌}
+use Rattle.std.proofs.Common.{map, filter, length, ℤ, pos, ◌-ℤ◌, int_le, refl, sym, ap, ap₂, ◌∙◌}
+use Rattle.std.proofs.Common.{subst, arith, inl, inr, append-nil, cond, eqb, eqb-true}
 use Rattle.std.proofs.lemmas.Int.{ints}
 use Rattle.std.proofs.lemmas.List.{map-append}
 use Rattle.std.specs.List.{list_all}
 use Rattle.std.specs.Int.{int_min}
-use Rattle.mill_model.specs.Sets.{chosen, sets, int_sum, holds}
+use Rattle.list_laws.specs.Sets.{chosen, sets, int_sum, holds}
 use Rattle.mill_model.specs.Slab.{Mill, load, colours, legal}
 use Rattle.mill_model.specs.Prices.{slack, legal_sets, least, least_slack, valid}
 use Rattle.mill_model.specs.LiveKey.{is_live, has_colour, LiveGroup, seen_from}
 use Rattle.mill_model.specs.declared.order.Order.{Order}
-use Rattle.mill_laws.proofs.Different.{load-append, legal-less}
-use Rattle.mill_laws.proofs.Lists.{Among, any-among, Among-unfilter}
-use Rattle.mill_laws.proofs.Mated.{joined-colours, colours-swap, chosen-among, map-among}
-use Rattle.mill_laws.proofs.Mated.{among-load, among-colour, colours_of}
-use Rattle.mill_model.proofs.Different.{or-cases, or-left, or-right, different-mono, holds-append}
-use Rattle.set_minima.proofs.Tops.{clash}
+use Rattle.mill_model.proofs.Slabs.{load-append, legal-less, joined-colours, colours-swap}
+use Rattle.mill_model.proofs.Slabs.{among-load, among-colour, colours_of}
+use Rattle.list_laws.proofs.Among.{Among, any-among, Among-unfilter, chosen-among, map-among}
+use Rattle.list_laws.proofs.Tests.{or-cases, or-left, or-right, clash}
+use Rattle.list_laws.proofs.Different.{different-mono, holds-append}
 
 -- Groups that the later orders see alike have the same least slack.
 module _ (mill : Mill) (charge : ℕ → ℕ) (rest g r : List Order)

@@ -3,5 +3,8 @@ pub mod Tops
 pub mod OneOrder
 pub mod OneColour
 pub mod Gains
+pub mod Fits
 pub mod Least
+pub mod Holding
 pub mod Groups
+pub mod LeftOut

@@ -1,20 +1,20 @@
 -- One colour more is let in, from a table of at most k colours to one of k + 1. While its orders
 -- are let in, the colour counts as an own one; sets with it then pay for it once.
-use Rattle.std.proofs.Common.{ℕ, suc, ◌+◌, ◌<◌, ◌≤◌, ◌≡◌, Bool, true, false, List}
-use Rattle.std.proofs.Common.{[]}
-use Rattle.std.proofs.Common.{◌∷◌, ◌++◌, length, ℤ, pos, Option, Some, None, eqb, refl, sym, ap}
-use Rattle.std.proofs.Common.{subst, ◌∙◌, arith, inl, inr, eqb-true, eq-eqb, append-nil}
+use Rattle.std.proofs.Common.{ℕ, suc, ◌+◌, ◌<◌, ◌≤◌, ◌≡◌, Bool, true, false, List, [], ◌∷◌, ◌++◌}
+use Rattle.std.proofs.Common.{length, ℤ, pos, Option, Some, None, eqb, refl, sym, ap, subst, ◌∙◌}
+use Rattle.std.proofs.Common.{arith, inl, inr, eqb-true, eq-eqb, append-nil}
 use Rattle.std.proofs.lemmas.Int.{ints}
-use Rattle.mill_model.specs.Sets.{chosen, int_sum, holds, different}
+use Rattle.list_laws.specs.Sets.{chosen, int_sum, holds, different}
 use Rattle.mill_model.specs.Slab.{load}
 use Rattle.mill_model.specs.Bounds.{in_set}
 use Rattle.mill_model.specs.declared.order.Order.{Order}
-use Rattle.mill_laws.proofs.Slacks.{nothing, nothing-chosen, nothing-length, nothing-in}
-use Rattle.mill_model.proofs.Different.{either, or-cases, or-right, different-mono, holds-append}
-use Rattle.mill_model.proofs.Different.{Within-left, Within-right}
+use Rattle.mill_laws.proofs.Slacks.{nothing-in}
+use Rattle.list_laws.proofs.Lists.{nothing, nothing-chosen, nothing-length}
+use Rattle.list_laws.proofs.Tests.{either, or-cases, or-right, clash}
+use Rattle.list_laws.proofs.Different.{different-mono, holds-append, Within-left, Within-right}
 use Rattle.set_minima.specs.Packs.{colour_at, colours_in, Packs, IsBest, IsNextColour, better}
 use Rattle.set_minima.proofs.Places.{in-set-below, colour-place, place-colour}
-use Rattle.set_minima.proofs.Tops.{clash, top-same, top-union}
+use Rattle.set_minima.proofs.Tops.{top-same, top-union}
 use Rattle.set_minima.proofs.OneOrder.{few-less}
 
 module _ (rest : List Order) (A A' : ℕ → Bool) (own : List ℕ) (c : ℕ)

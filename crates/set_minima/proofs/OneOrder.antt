@@ -1,19 +1,18 @@
 -- One order more is let in: the best prices of the sets without it, and of those with it.
-use Rattle.std.proofs.Common.{ℕ, ◌+◌, ◌-◌, ◌<◌, ◌≤◌, ◌≡◌, ◌≢◌, Bool, true, false, ◌||◌, List}
-use Rattle.std.proofs.Common.{◌++◌}
+use Rattle.std.proofs.Common.{ℕ, ◌+◌, ◌-◌, ◌<◌, ◌≤◌, ◌≡◌, ◌≢◌, Bool, true, false, ◌||◌, List, ◌++◌}
 use Rattle.std.proofs.Common.{length, get_or, set, ℤ, pos, ◌+ℤ◌, Option, eqb, refl, sym, ap, subst}
 use Rattle.std.proofs.Common.{◌∙◌, arith, inl, inr, eq-eqb, eqb-true, length-set}
-use Rattle.mill_model.specs.Sets.{chosen, int_sum, holds, different}
+use Rattle.list_laws.specs.Sets.{chosen, int_sum, holds, different}
 use Rattle.mill_model.specs.Slab.{load}
 use Rattle.mill_model.specs.Bounds.{in_set}
 use Rattle.mill_model.specs.declared.order.Order.{Order}
-use Rattle.mill_model.proofs.Different.{either, or-cases, or-left, or-right, different-mono}
-use Rattle.mill_model.proofs.Different.{holds-append, Within}
+use Rattle.list_laws.proofs.Tests.{either, or-cases, or-left, or-right, clash}
+use Rattle.list_laws.proofs.Different.{different-mono, holds-append, Within}
 use Rattle.set_minima.specs.Packs.{nobody, colour_at, colours_in, Packs, IsBest, IsNext, better}
 use Rattle.set_minima.specs.Packs.{with_price}
-use Rattle.set_minima.proofs.Places.{in-set-same, in-set-other, in-set-below, load-place}
-use Rattle.set_minima.proofs.Places.{sum-place, colours-place, marked, unmarked}
-use Rattle.set_minima.proofs.Tops.{clash, top-same, top-union, top-shift}
+use Rattle.set_minima.proofs.Places.{in-set-same, in-set-other, in-set-below, load-place, sum-place}
+use Rattle.set_minima.proofs.Places.{colours-place, marked, unmarked}
+use Rattle.set_minima.proofs.Tops.{top-same, top-union, top-shift}
 
 module _ (rest : List Order) where
   -- sets of fewer colours

@@ -1,15 +1,14 @@
 -- One place of a set is marked or not.
-use Rattle.std.proofs.Common.{ℕ, zero, suc, ◌+◌, ◌<◌, ◌≡◌, ◌≢◌, Bool, true, false}
-use Rattle.std.proofs.Common.{◌||◌, List, [], ◌∷◌, length, get_or, set}
-use Rattle.std.proofs.Common.{ℤ, pos, ◌+ℤ◌, eqb, refl, sym, ap, ◌∙◌, arith, inl, inr, eq-eqb}
-use Rattle.std.proofs.Common.{eqb-true}
+use Rattle.std.proofs.Common.{ℕ, zero, suc, ◌+◌, ◌<◌, ◌≡◌, ◌≢◌, Bool, true, false, ◌||◌, List, []}
+use Rattle.std.proofs.Common.{◌∷◌, length, get_or, set, ℤ, pos, ◌+ℤ◌, eqb, refl, sym, ap, ◌∙◌}
+use Rattle.std.proofs.Common.{arith, inl, inr, eq-eqb, eqb-true}
 use Rattle.std.proofs.lemmas.Int.{ints}
 use Rattle.std.proofs.lemmas.List.{get_or-set_same, get_or-set_other, set-get_or}
-use Rattle.mill_model.specs.Sets.{chosen, int_sum, holds}
+use Rattle.list_laws.specs.Sets.{chosen, int_sum, holds}
 use Rattle.mill_model.specs.Slab.{load}
 use Rattle.mill_model.specs.Bounds.{in_set}
 use Rattle.mill_model.specs.declared.order.Order.{Order}
-use Rattle.mill_model.proofs.Different.{or-cases, or-left, or-right}
+use Rattle.list_laws.proofs.Tests.{or-cases, or-left, or-right}
 use Rattle.set_minima.specs.Packs.{nobody, colour_at, colours_in}
 
 pub in-set-same : (j : ℕ) (marks : List Bool) (b : Bool) → j < length marks →

@@ -1,6 +1,6 @@
 -- The greatest value of a kind of sets: of the same sets, of two kinds, of sets with one thing
 -- more.
-use Rattle.std.proofs.Common.{◌≡◌, ◌⊎◌, Bool, true, false, List, ℤ, ◌+ℤ◌, ◌≤ℤ◌, Option}
+use Rattle.std.proofs.Common.{◌≡◌, ◌⊎◌, Bool, List, ℤ, ◌+ℤ◌, ◌≤ℤ◌, Option}
 use Rattle.std.proofs.Common.{Some, None}
 use Rattle.std.proofs.Common.{refl, sym, ◌∙◌, arith, inl, inr}
 use Rattle.std.proofs.lemmas.Int.{ints}
@@ -12,9 +12,6 @@ none-some v e = absurd (cc)
 
 pub some-same : (v w : ℤ) → ◌≡◌ {A = Option ℤ} (Some v) (Some w) → v ≡ w
 some-same v w e = cc
-
-pub clash : (b : Bool) → b ≡ true → b ≡ false → ⊥
-clash b t f = cc
 
 max-is : (x z : ℤ) → (int_max x z ≡ x) ⊎ (int_max x z ≡ z)
 max-is x z = grind (arith, ints)

@@ -1,9 +1,8 @@
 -- Sets that may join a slab, of which the load and the colours are known, and what they gain.
 use Rattle.std.specs.Prelude.{ℕ, ◌+◌, ◌<◌, ◌≤◌, ◌*◌, ◌≡◌, ◌++◌, ◌∷◌, Bool, true, ◌&&◌, ◌||◌, not}
-use Rattle.std.specs.Prelude.{List}
-use Rattle.std.specs.Prelude.{length, map, ℤ, pos, ◌-ℤ◌, neg_ℤ, Option, Some, None, cond, eqb, leb}
-use Rattle.std.specs.Prelude.{ltb, slice_index_or}
-use Rattle.mill_model.specs.Sets.{chosen, int_sum, holds, different}
+use Rattle.std.specs.Prelude.{List, length, map, ℤ, pos, ◌-ℤ◌, neg_ℤ, Option, Some, None, cond, eqb}
+use Rattle.std.specs.Prelude.{leb, ltb, slice_index_or}
+use Rattle.list_laws.specs.Sets.{chosen, int_sum, holds, different}
 use Rattle.mill_model.specs.Slab.{load}
 use Rattle.mill_model.specs.Bounds.{in_set}
 use Rattle.mill_model.specs.declared.order.Order.{Order}

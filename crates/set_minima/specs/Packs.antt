@@ -1,10 +1,9 @@
 -- Sets of some orders by load and colours, and the best prices of such sets. A set is a list of
 -- marks, and its orders are named by their places.
 use Rattle.std.specs.Prelude.{ℕ, ◌<◌, ◌≤◌, ◌≡◌, ◌++◌, Bool, true, false, List, length, map, ℤ, ◌+ℤ◌}
-use Rattle.std.specs.Prelude.{◌≤ℤ◌}
-use Rattle.std.specs.Prelude.{Option, Some, None, slice_index_or, eqb}
+use Rattle.std.specs.Prelude.{◌≤ℤ◌, Option, Some, None, slice_index_or, eqb}
 use Rattle.std.specs.Int.{int_max}
-use Rattle.mill_model.specs.Sets.{chosen, int_sum, different}
+use Rattle.list_laws.specs.Sets.{chosen, int_sum, different}
 use Rattle.mill_model.specs.Slab.{load}
 use Rattle.mill_model.specs.Bounds.{in_set}
 use Rattle.mill_model.specs.declared.order.Order.{Order}

@@ -4,13 +4,12 @@ use Rattle.std.proofs.Common.{[], ◌∷◌, ◌++◌, map, length, eqb, leb, re
 use Rattle.std.proofs.Common.{inl, inr, eq-eqb, eqb-true, ne_eqb, false-eqb, le-leb, leb-true}
 use Rattle.std.specs.List.{list_any}
 use Rattle.std.proofs.lemmas.List.{map-append, length-append}
-use Rattle.mill_model.specs.Sets.{holds}
+use Rattle.list_laws.specs.Sets.{holds}
 use Rattle.mill_model.specs.Slab.{load, colours, legal}
 use Rattle.mill_model.specs.declared.order.Order.{Order}
-use Rattle.mill_model.proofs.Different.{either, holds-append}
-use Rattle.mill_model.proofs.FirstPlaces.{different-push}
-use Rattle.mill_laws.proofs.Lists.{and-left, and-right}
-use Rattle.mill_laws.proofs.Different.{different-same, load-append}
+use Rattle.list_laws.proofs.Tests.{either, and-left, and-right}
+use Rattle.list_laws.proofs.Different.{holds-append, different-push, different-same}
+use Rattle.mill_model.proofs.Slabs.{load-append}
 use Rattle.slab_rules.specs.OpenSlab.{OpenSlab, with_colour, joined, IsWithinBounds, HasNoRepeats}
 use Rattle.slab_rules.specs.OpenSlab.{IsOpenSlab, Carries}
 

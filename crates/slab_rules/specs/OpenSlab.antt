@@ -1,6 +1,6 @@
 -- A slab that more orders may join.
 use Rattle.std.specs.Prelude.{ℕ, ◌+◌, ◌≡◌, ◌≤◌, cond, List, [], ◌∷◌, ◌++◌, map, length}
-use Rattle.mill_model.specs.Sets.{holds, different}
+use Rattle.list_laws.specs.Sets.{holds, different}
 use Rattle.mill_model.specs.Slab.{Mill, load}
 use Rattle.mill_model.specs.declared.order.Order.{Order}
 

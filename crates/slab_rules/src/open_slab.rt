@@ -1,5 +1,5 @@
 ghost use Rattle.std.specs.Prelude.{◌≡◌, ◌≤◌, ◌↔◌, ◌++◌, ◌∷◌, [], List, IsTrue, true};
-ghost use Rattle.mill_model.specs.Sets.{holds};
+ghost use Rattle.list_laws.specs.Sets.{holds};
 ghost use Rattle.mill_model.specs.Slab.{legal};
 ghost use Rattle.mill_model.specs.declared.order.Order.{Order};
 ghost use Rattle.slab_rules.specs.OpenSlab.{empty_on, joined, IsWithinBounds, IsOpenSlab, Carries};

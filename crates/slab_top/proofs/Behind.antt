@@ -1,6 +1,6 @@
 -- What stands behind white space.
-use Rattle.std.proofs.Common.{◌≡◌, ℕ, zero, suc, ◌+◌, ◌-◌, ◌<◌, ◌≤◌, List, [], ◌∷◌, true, IsTrue}
-use Rattle.std.proofs.Common.{length, take, drop, get_or, refl, sym, ap, ◌∙◌, subst, arith, inl}
+use Rattle.std.proofs.Common.{◌≡◌, ℕ, zero, suc, ◌+◌, ◌-◌, ◌<◌, List, [], ◌∷◌, true, IsTrue}
+use Rattle.std.proofs.Common.{length, take, drop, get_or, refl, ap, ◌∙◌, subst, arith, inl}
 use Rattle.std.proofs.Common.{inr}
 use Rattle.std.proofs.Common.{length-drop, drop-cons}
 use Rattle.std.specs.Prelude.{All}
@@ -8,7 +8,7 @@ use Rattle.std.proofs.lemmas.Bool.{cases_order}
 use Rattle.std.proofs.lemmas.List.{get_or-drop, take_all}
 use Rattle.line_text.specs.Lines.{is_white}
 use Rattle.instance_text.specs.Words.{IsBlankFrom, IsFirstNotBlank}
-use Rattle.slab_top.specs.Answer.{after_white}
+use Rattle.slab_top.specs.Input.{after_white}
 
 -- a rest that is blank has no first byte that isn't
 pub rest-is-blank : (text : List ℕ) (end at : ℕ) → IsFirstNotBlank text end at →

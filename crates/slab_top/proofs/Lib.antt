@@ -1,13 +1,6 @@
-pub mod Names
-pub mod Rules
-pub mod Grammar
-pub mod Behind
-pub mod Charged
-pub mod Alone
-pub mod Solved
-pub mod Once
-pub mod Said
-pub mod Verified
-pub mod Served
-pub mod Exact
-pub mod Pieces
+mod Behind
+mod Stages
+mod Replying
+mod Stopped
+mod EachCommand
+mod Rights

@@ -1,37 +1,31 @@
 -- What a run ends with: its status, and what it has read.
-use Rattle.std.specs.Prelude.{◌≢◌, ℕ, ◌≤◌, List, [], ◌∷◌, length, IsTrue}
+use Rattle.std.specs.Prelude.{◌≡◌, ◌≢◌, ℕ, ◌≤◌, List, [], ◌∷◌, length, IsTrue}
 use Rattle.mill_model.specs.Instance.{Problem}
-use Rattle.mill_model.specs.Sets.{holds}
+use Rattle.list_laws.specs.Sets.{holds}
 use Rattle.mill_model.specs.Size.{enough}
-use Rattle.slab_top.specs.declared.words.Job.{Job}
-use Rattle.slab_top.specs.Answer.{IsInstanceInput}
-use Rattle.slab_top.specs.Words.{AskFor, limit_of}
-
--- the status of a feasible plan, where a search spent its budget
-abbrev pub feasible : ℕ
-feasible = 4
-
--- the statuses that tell of a failure: of a read, of a write, and want of memory
-abbrev pub read_fault : ℕ
-read_fault = 5
-
-abbrev pub write_fault : ℕ
-write_fault = 6
-
-abbrev pub out_of_memory : ℕ
-out_of_memory = 7
+use Rattle.instance_text.specs.Text.{IsInstanceText}
+use Rattle.job_words.specs.declared.job.Job.{Job}
+use Rattle.job_words.specs.Words.{AskFor, limit_of}
+use Rattle.reply_text.specs.declared.status.TheConstants.{OPTIMAL, INFEASIBLE, WRONG_WORDS, REFUSED}
+use Rattle.reply_text.specs.declared.status.TheConstants.{FEASIBLE, READ_FAULT, WRITE_FAULT}
+use Rattle.reply_text.specs.declared.status.TheConstants.{OUT_OF_MEMORY, REJECTED}
 
 -- the statuses that a run ends with
 abbrev pub IsStatus : ℕ → Type 0
 IsStatus status =
-    IsTrue (holds status (0 ∷ 1 ∷ 2 ∷ 3 ∷ feasible ∷ read_fault ∷ write_fault ∷ out_of_memory ∷ 8 ∷
-    []))
+    IsTrue (holds status (OPTIMAL ∷ INFEASIBLE ∷ WRONG_WORDS ∷ REFUSED ∷ FEASIBLE ∷ READ_FAULT
+    ∷ WRITE_FAULT ∷ OUT_OF_MEMORY ∷ REJECTED ∷ []))
 
 -- the status tells of no failure
 pub record IsAnswered (status : ℕ) : Type 0 where
-  pub read : status ≢ read_fault
-  pub written : status ≢ write_fault
-  pub memory : status ≢ out_of_memory
+  pub read : status ≢ READ_FAULT
+  pub written : status ≢ WRITE_FAULT
+  pub memory : status ≢ OUT_OF_MEMORY
+
+-- the status is one that a run ends with, and tells of no failure
+pub record IsOwnStatus (status : ℕ) : Type 0 where
+  pub known : IsStatus status
+  pub answered : IsAnswered status
 
 -- the words ask for a job that reads its input, which is within the limit
 pub record IsToBeRead (words : List (List ℕ)) (input : List ℕ) : Type 0 where
@@ -39,11 +33,12 @@ pub record IsToBeRead (words : List (List ℕ)) (input : List ℕ) : Type 0 wher
   pub asked : AskFor words job
   pub within : length input ≤ limit_of job.command
 
--- the words ask for a plan of the instance that is the input, with a budget that is enough for so
--- many orders
+-- the words ask for a job with a budget that is enough for so many orders as the input's instance
+-- has
 pub record HasEnough (words : List (List ℕ)) (input : List ℕ) : Type 0 where
   pub job : Job
   pub asked : AskFor words job
   pub problem : Problem
-  pub text : IsInstanceInput job input problem
-  pub budget : enough (length problem.orders) ≤ job.nodes
+  pub colours : problem.p ≡ job.p
+  pub text : IsInstanceText input problem
+  pub budget : enough (length problem.orders) ≤ job.limits.nodes

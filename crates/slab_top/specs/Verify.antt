@@ -1,67 +1,12 @@
--- What `verify` says of an answer, and where.
-use Rattle.std.specs.Prelude.{◌≡◌, ℕ, Bool, List, Some, None}
-use Rattle.mill_model.specs.Instance.{Problem, mill_of, loss_charge}
-use Rattle.mill_model.specs.Plan.{NoneLosesLess}
-use Rattle.mill_model.specs.Log.{Task, Refutes}
-use Rattle.mill_model.specs.declared.closing.Entry.{Entry}
-use Rattle.mill_laws.specs.LogLaws.{task_of}
-use Rattle.plan_check.specs.Verdicts.{IsLegal}
-use Rattle.log_checker.specs.Verdict.{is_missing, is_stray, is_unsound, is_wrong, IsFirst}
-use Rattle.slab_top.specs.declared.judgement.Judgement.{Judgement}
-use Rattle.slab_top.specs.declared.judgement.Judgement.TheVariants.{Legal, Verified}
-use Rattle.slab_top.specs.declared.judgement.Judgement.TheVariants.{Missing, Stray, Unsound}
-use Rattle.answer_text.specs.declared.answer.Answer.{Answer}
-use Rattle.answer_text.specs.declared.answer.Answer.TheVariants.{Optimal, Feasible, Infeasible}
-use Rattle.slab_top.specs.Judgement.{IsSaidOfPlan, IsSaidOfOrder}
+-- `verify`: it reads an instance with an answer that can be verified, and judges that and its log.
+use Rattle.std.specs.Prelude.{ℕ, List}
+use Rattle.job_words.specs.declared.job.Job.{Job}
+use Rattle.reply_text.specs.declared.outcome.Outcome.{Outcome}
+use Rattle.reply_text.specs.declared.outcome.Outcome.TheVariants.{Judged}
+use Rattle.judge_answer.specs.Verify.{IsVerdictOn}
+use Rattle.slab_top.specs.Input.{instance_with_proof}
+use Rattle.slab_top.specs.Reply.{Replies, Tells}
 
--- what a log of a problem is judged by
-abbrev pub task_of_problem : Problem → Task
-task_of_problem problem = task_of (mill_of problem) (loss_charge problem.sizes) problem.orders
-
--- a plan is legal and loses so much
-abbrev pub IsLegalWith : Problem → List ℕ → ℕ → Type 0
-IsLegalWith problem plan loss =
-    IsLegal (mill_of problem) (loss_charge problem.sizes) problem.orders plan loss
-
--- The plan is legal and loses what is stated, and the log refutes this loss. So, by the law on
--- logs, no legal plan loses less.
-pub record IsVerified (problem : Problem) (stated : ℕ) (plan : List ℕ) (log : List Entry)
-    (loss : ℕ) : Type 0 where
-  pub legal : IsLegalWith problem plan loss
-  pub is_stated : stated ≡ loss
-  pub refuted : Refutes (task_of_problem problem) loss log
-  pub least : NoneLosesLess (mill_of problem) (loss_charge problem.sizes) problem.orders loss
-
--- The plan is legal and loses what is stated, and this is the first wrong path of the log, in
--- rising order; what is wrong with it is of this kind.
-pub record IsFirstFault (problem : Problem) (stated : ℕ) (plan : List ℕ) (log : List Entry)
-    (is_kind : List ℕ → Bool) (path : List ℕ) : Type 0 where
-  pub legal : IsLegalWith problem plan stated
-  pub first : IsFirst is_kind (is_wrong (task_of_problem problem) stated log) path
-
--- what is said of a plan, its stated loss and a log, in this order
-abbrev pub IsSaidOfProof : Problem → ℕ → List ℕ → List Entry → Judgement → Type 0
-IsSaidOfProof problem stated plan log (Verified loss) = IsVerified problem stated plan log loss
-IsSaidOfProof problem stated plan log (Missing path) =
-    IsFirstFault problem stated plan log (is_missing (task_of_problem problem) log) path
-IsSaidOfProof problem stated plan log (Stray path) =
-    IsFirstFault problem stated plan log (is_stray (task_of_problem problem) log) path
-IsSaidOfProof problem stated plan log (Unsound path) =
-    IsFirstFault problem stated plan log (is_unsound (task_of_problem problem) stated log) path
-IsSaidOfProof problem stated plan log (Legal loss) = ⊥
-IsSaidOfProof problem stated plan log judgement = IsSaidOfPlan problem stated plan judgement
-
--- what `verify` says of an answer
-abbrev pub IsVerdictOn : Problem → Answer → Judgement → Type 0
-IsVerdictOn problem (Optimal loss plan (Some log)) judgement =
-    IsSaidOfProof problem loss plan log.entries judgement
-IsVerdictOn problem (Optimal loss plan None) judgement = ⊥
-IsVerdictOn problem (Feasible loss plan spent) judgement = ⊥
-IsVerdictOn problem (Infeasible order) judgement = IsSaidOfOrder problem order judgement
-
--- the answer has a plan and no log, so it says nothing that can be verified
-abbrev pub ProvesNothing : Answer → Type 0
-ProvesNothing (Optimal loss plan (Some log)) = ⊥
-ProvesNothing (Optimal loss plan None) = Unit {0}
-ProvesNothing (Feasible loss plan spent) = Unit {0}
-ProvesNothing (Infeasible order) = ⊥
+abbrev pub Verifies : Job → List ℕ → Outcome → Type 0
+Verifies job bytes =
+    Replies (instance_with_proof job.p bytes) (λ read. Tells Judged (IsVerdictOn read.0 read.1))

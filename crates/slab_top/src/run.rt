@@ -1,81 +1,72 @@
-ghost use Rattle.std.specs.Prelude.{◌≡◌, ◌≢◌, List, ◌≤◌, Err, length, IfOk, IfSome, IsSome, OnOk};
+ghost use Rattle.std.specs.Prelude.{◌≡◌, ◌≢◌, ◌≤◌, Err, length, IfOk, IfSome, IsSome, OnOk};
 ghost use Rattle.std.specs.Prelude.{IsErrOf};
 ghost use Rattle.std.specs.Io.KnownBytes.{Appends, IsAtEnd};
 ghost use Rattle.mill_io.specs.Causes.{Rose};
 ghost use Rattle.mill_io.specs.Bytes.{AppendsFront};
-ghost use Rattle.slab_top.specs.Words.{AskFor, IsInRange, limit_of, texts};
-ghost use Rattle.slab_top.specs.Outcome.{status_of, text_of, IsToTell, MayEndWith};
-ghost use Rattle.slab_top.specs.Answer.{Agree, AnswersAgree, IsRight, IsServed};
-ghost use Rattle.slab_top.specs.Run.{IsAnswered, IsStatus, IsToBeRead, read_fault, write_fault};
-ghost use Rattle.slab_top.specs.Run.{HasEnough, feasible, out_of_memory};
-ghost use Rattle.slab_top.specs.declared.outcome.Outcome.{Outcome};
-ghost use Rattle.slab_top.specs.declared.words.Job.{Job};
+ghost use Rattle.job_words.specs.Words.{AskFor, IsInRange, limit_of, texts};
+ghost use Rattle.job_words.specs.declared.job.Job.{Job};
+ghost use Rattle.reply_text.specs.Outcome.{IsToTell};
+ghost use Rattle.reply_text.specs.declared.status.TheConstants.{FEASIBLE, READ_FAULT, WRITE_FAULT};
+ghost use Rattle.reply_text.specs.declared.status.TheConstants.{OUT_OF_MEMORY};
+ghost use Rattle.slab_top.specs.Served.{Output, IsRight, IsServed, status_of, text_of};
+ghost use Rattle.slab_top.specs.Agree.{Agree, MayEndWith};
+ghost use Rattle.slab_top.specs.Run.{HasEnough, IsAnswered, IsOwnStatus, IsStatus, IsToBeRead};
 
-use crate::answer::answer;
-use crate::outcome::{Outcome, Refusal};
-use crate::usage::write_usage;
-use crate::words::{Job, read_words};
+use crate::commands::serve;
+use job_words::{Job, read_words, write_usage};
 use mill_io::{ReadError, Sink, Source, read_all};
-use mill_model::OutOfMemory;
+use reply_text::{
+    OUT_OF_MEMORY, Outcome, READ_FAULT, Refusal, Reply, Stop, WRITE_FAULT, WRONG_WORDS,
+};
 use std::alloc::Global;
-
-// The statuses that tell of a failure.
-const READ_FAULT: u8 = 5;
-
-const WRITE_FAULT: u8 = 6;
-
-const OUT_OF_MEMORY: u8 = 7;
 
 // Why there is no outcome.
 #[derive(Clone, Copy, Debug, PartialEq, Eq)]
-enum Stop {
+enum Failure {
     ReadFault,
     OutOfMemory,
 }
 
 // What a job answers to a source.
-fn outcome_of<S: Source>(alloc: Global, job: Job, source: &mut S) -> Result<Outcome, Stop>
+fn outcome_of<S: Source>(alloc: Global, job: Job, source: &mut S) -> Result<Outcome, Failure>
     requires in_range { IsInRange job }
     ensures served { IfOk result (IsServed job (S.left source.old)) }
-    ensures exact { IfOk result (λ outcome. IfSome (S.left source.old) (λ input.
-        AnswersAgree job input outcome)) }
     ensures told { IfOk result IsToTell }
     ensures ended { OnOk result (IfSome (S.left source.old) (λ input.
         length input ≤ limit_of job.command → IsAtEnd (S.left source.new))) }
-    ensures fault { IsErrOf result Stop.ReadFault
+    ensures fault { IsErrOf result Failure.ReadFault
         → Rose (S.faults source.old) (S.faults source.new) }
-    ensures kept { result ≢ Err Stop.ReadFault → S.faults source.new ≡ S.faults source.old }
+    ensures kept { result ≢ Err Failure.ReadFault → S.faults source.new ≡ S.faults source.old }
 {
+    // A command that reads nothing goes here, before the reading.
     let limit = job.command.limit();
     let input = match read_all(alloc, source, limit) {
         Ok(input) => input,
-        Err(ReadError::TooLong) => {
-            return Ok(Outcome::Refused(Refusal::TooLong { limit }));
-        }
-        Err(ReadError::ReadFault) => return Err(Stop::ReadFault),
-        Err(ReadError::OutOfMemory) => return Err(Stop::OutOfMemory),
+        Err(ReadError::TooLong) => return Ok(Outcome::Refused(Refusal::TooLong { limit })),
+        Err(ReadError::ReadFault) => return Err(Failure::ReadFault),
+        Err(ReadError::OutOfMemory) => return Err(Failure::OutOfMemory),
     };
-    match answer(alloc, job, &input) {
+    match serve(alloc, job, &input) {
         Ok(outcome) => Ok(outcome),
-        Err(OutOfMemory) => Err(Stop::OutOfMemory),
+        Err(Stop::Refused(why)) => Ok(Outcome::Refused(why)),
+        Err(Stop::OutOfMemory) => Err(Failure::OutOfMemory),
     }
 }
 
-// Writes the text of an outcome, and gives its status where that succeeds.
-fn write_out<K: Sink>(sink: &mut K, outcome: &Outcome, text: &[u8]) -> u8
-    requires text { text.now ≡ text_of outcome.now }
-    requires told { IsToTell outcome.now }
+// Writes a reply, and gives its status where that succeeds. It takes no memory.
+fn write_out<K: Sink>(sink: &mut K, reply: &Reply) -> u8
+    requires own { IsOwnStatus reply.now.status }
     ensures known { IsStatus result }
-    ensures status { result ≢ write_fault → result ≡ status_of outcome.now }
-    ensures whole { result ≢ write_fault
-        → Appends (K.written sink.old) (K.written sink.new) (text_of outcome.now) }
-    ensures kept { result ≢ write_fault → K.faults sink.new ≡ K.faults sink.old }
-    ensures front { result ≡ write_fault
-        → AppendsFront (K.written sink.old) (K.written sink.new) (text_of outcome.now) }
-    ensures fault { result ≡ write_fault → Rose (K.faults sink.old) (K.faults sink.new) }
+    ensures status { result ≢ WRITE_FAULT → result ≡ reply.now.status }
+    ensures whole { result ≢ WRITE_FAULT
+        → Appends (K.written sink.old) (K.written sink.new) reply.now.text }
+    ensures kept { result ≢ WRITE_FAULT → K.faults sink.new ≡ K.faults sink.old }
+    ensures front { result ≡ WRITE_FAULT
+        → AppendsFront (K.written sink.old) (K.written sink.new) reply.now.text }
+    ensures fault { result ≡ WRITE_FAULT → Rose (K.faults sink.old) (K.faults sink.new) }
 {
-    match sink.write_all(text) {
-        Ok(()) => outcome.status(),
+    match reply.write(sink) {
+        Ok(()) => reply.status(),
         Err(_) => WRITE_FAULT,
     }
 }
@@ -88,7 +79,7 @@ fn write_out<K: Sink>(sink: &mut K, outcome: &Outcome, text: &[u8]) -> u8
 /// | 1 | `solve` or `prove` wrote the first order that no slab holds |
 /// | 2 | the words ask for nothing that the program does |
 /// | 3 | the input was refused |
-/// | 4 | `solve` or `prove` wrote a feasible plan: its budget was spent and a path was left |
+/// | 4 | `solve` or `prove` wrote a feasible plan: its budget is less than is always enough |
 /// | 5 | a read failed; nothing was written |
 /// | 6 | a write failed; a front of the text was written |
 /// | 7 | want of memory; nothing was written |
@@ -99,24 +90,24 @@ pub fn run_plain<S: Source, K: Sink>(
     source: &mut S,
     sink: &mut K,
 ) -> u8
-    // Unless something failed, the status is that of an outcome that is right for the words and the
+    // Unless something failed, the status is that of an output that is right for the words and the
     // bytes, and its text was written whole.
-    ensures answered { IsAnswered result → (outcome : Outcome)
-        × IsRight (texts words.now) (S.left source.old) outcome
-        × (result ≡ status_of outcome)
-        × Appends (K.written sink.old) (K.written sink.new) (text_of outcome) }
+    ensures answered { IsAnswered result → (output : Output)
+        × IsRight (texts words.now) (S.left source.old) output
+        × (result ≡ status_of output)
+        × Appends (K.written sink.old) (K.written sink.new) (text_of output) }
 
-    // Where the bytes are told, each outcome that is right has this status: it comes exactly there.
+    // Where the bytes are told, each output that is right has this status: it comes exactly there.
     // Only whether a plan is optimal or feasible is left open, where the budget isn't enough.
-    ensures exact { IsAnswered result → IsSome (S.left source.old) → (outcome : Outcome)
-        → IsRight (texts words.now) (S.left source.old) outcome → MayEndWith outcome result }
+    ensures exact { IsAnswered result → IsSome (S.left source.old) → (output : Output)
+        → IsRight (texts words.now) (S.left source.old) output → MayEndWith output result }
     ensures enough { IfSome (S.left source.old) (λ input.
-        HasEnough (texts words.now) input → result ≢ feasible) }
+        HasEnough (texts words.now) input → result ≢ FEASIBLE) }
 
-    // And it agrees with the outcome whose text was written.
-    ensures told { IsAnswered result → IsSome (S.left source.old) → (outcome : Outcome)
-        → IsRight (texts words.now) (S.left source.old) outcome → (written : Outcome)
-        × Agree written outcome
+    // And it agrees with the output that was written.
+    ensures told { IsAnswered result → IsSome (S.left source.old) → (output : Output)
+        → IsRight (texts words.now) (S.left source.old) output → (written : Output)
+        × Agree written output
         × Appends (K.written sink.old) (K.written sink.new) (text_of written) }
 
     // Bytes that are to be read were read to the end, and else none was.
@@ -126,31 +117,31 @@ pub fn run_plain<S: Source, K: Sink>(
     ensures known { IsStatus result }
 
     // A fault of the source is the one cause of its status, and has no other; so with the sink.
-    ensures read_fault { result ≡ read_fault → Rose (S.faults source.old) (S.faults source.new) }
-    ensures no_read_fault { result ≢ read_fault → S.faults source.new ≡ S.faults source.old }
-    ensures write_fault { result ≡ write_fault → Rose (K.faults sink.old) (K.faults sink.new) }
-    ensures no_write_fault { result ≢ write_fault → K.faults sink.new ≡ K.faults sink.old }
-    ensures front { result ≡ write_fault → (outcome : Outcome)
-        × IsRight (texts words.now) (S.left source.old) outcome
-        × AppendsFront (K.written sink.old) (K.written sink.new) (text_of outcome) }
+    ensures read_fault { result ≡ READ_FAULT → Rose (S.faults source.old) (S.faults source.new) }
+    ensures no_read_fault { result ≢ READ_FAULT → S.faults source.new ≡ S.faults source.old }
+    ensures write_fault { result ≡ WRITE_FAULT → Rose (K.faults sink.old) (K.faults sink.new) }
+    ensures no_write_fault { result ≢ WRITE_FAULT → K.faults sink.new ≡ K.faults sink.old }
+    ensures front { result ≡ WRITE_FAULT → (output : Output)
+        × IsRight (texts words.now) (S.left source.old) output
+        × AppendsFront (K.written sink.old) (K.written sink.new) (text_of output) }
 
     // The other failures come before the first write, and want of memory only to a job.
-    ensures unwritten { result ≡ read_fault → sink.new ≡ sink.old }
-    ensures memory { result ≡ out_of_memory → sink.new ≡ sink.old }
-    ensures memory_for { result ≡ out_of_memory → (job : Job) × AskFor (texts words.now) job }
+    ensures unwritten { result ≡ READ_FAULT → sink.new ≡ sink.old }
+    ensures memory { result ≡ OUT_OF_MEMORY → sink.new ≡ sink.old }
+    ensures memory_for { result ≡ OUT_OF_MEMORY → (job : Job) × AskFor (texts words.now) job }
 {
     let Ok(job) = read_words(words) else {
         return match write_usage(sink) {
-            Ok(()) => Outcome::WrongWords.status(),
+            Ok(()) => WRONG_WORDS,
             Err(_) => WRITE_FAULT,
         };
     };
     match outcome_of(alloc, job, source) {
-        Ok(outcome) => match outcome.text(alloc) {
-            Ok(text) => write_out(sink, &outcome, &text),
+        Ok(outcome) => match outcome.reply(alloc) {
+            Ok(reply) => write_out(sink, &reply),
             Err(_) => OUT_OF_MEMORY,
         },
-        Err(Stop::ReadFault) => READ_FAULT,
-        Err(Stop::OutOfMemory) => OUT_OF_MEMORY,
+        Err(Failure::ReadFault) => READ_FAULT,
+        Err(Failure::OutOfMemory) => OUT_OF_MEMORY,
     }
 }

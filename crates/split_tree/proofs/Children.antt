@@ -1,23 +1,24 @@
 -- The children of a node, one number after another.
-use Rattle.std.proofs.Common.{ℕ, suc, ◌+◌, ◌<◌, ◌≤◌, ◌≡◌, Bool, true, false, cond, ◌&&◌, ◌||◌}
-use Rattle.std.proofs.Common.{List, [], ◌∷◌, ◌++◌, map, filter, length, leb, Some, refl, sym, ap}
-use Rattle.std.proofs.Common.{ap₂}
+use Rattle.std.proofs.Common.{ℕ, suc, ◌+◌, ◌<◌, ◌≤◌, ◌≡◌, Bool, true, false, cond, ◌&&◌, ◌||◌, List}
+use Rattle.std.proofs.Common.{[], ◌∷◌, ◌++◌, map, filter, length, leb, Some, refl, sym, ap, ap₂}
 use Rattle.std.proofs.Common.{◌∙◌, arith, inl, inr, le-leb, append-nil}
 use Rattle.std.proofs.lemmas.Bool.Decides.{nat_tests}
-use Rattle.std.proofs.lemmas.List.{length-append, length-map}
+use Rattle.std.proofs.lemmas.List.{map-append}
 use Rattle.std.proofs.lemmas.List.Elements.{All-from_recursion}
 use Rattle.std.specs.List.{All, AllByRecursion, slice_get}
-use Rattle.mill_model.specs.Sets.{below}
+use Rattle.std.proofs.lemmas.Option.{slice_get_within}
+use Rattle.list_laws.specs.Sets.{below}
 use Rattle.mill_model.specs.Slab.{legal}
 use Rattle.mill_model.specs.Rank.{starts_class_in}
 use Rattle.mill_model.specs.Tree.{next_new, last_number, may_go_on, children, in_tree}
 use Rattle.mill_model.specs.declared.order.Order.{Order}
-use Rattle.mill_laws.proofs.Lists.{and-right, map-append}
-use Rattle.mill_laws.proofs.Different.{either}
+use Rattle.list_laws.proofs.Tests.{either}
 use Rattle.mill_laws.proofs.Paths.{goes-append}
 use Rattle.order_symmetry.specs.Ranked.{orders_of}
 use Rattle.split_tree.specs.Node.{Node, IsNode, group_of, least_number}
 use Rattle.split_tree.proofs.Pushes.{slab-same}
+use Rattle.std.proofs.Common.{ltb}
+use Rattle.std.proofs.Common.{lt-ltb}
 
 -- the order that comes next
 pub next-order : (inner node : Node) (depth : ℕ) (order : Order) → inner ≡ node →
@@ -69,7 +70,11 @@ module _ (node : Node) (g : ℕ) (order : Order)
       ≡ (leb (least_number node) g && legal node.ranked.mill (group_of node g ++ order ∷ []))
   may-is =
       let starts = starts_class_in (length node.path) (orders_of node.ranked) in
+      let to-come : ltb (length node.path) (length (orders_of node.ranked)) ≡ true =
+      lt-ltb (length node.path) (length (orders_of node.ranked))
+      (slice_get_within (orders_of node.ranked) (length node.path) order next) in
       rw (
+        to-come,
         le-leb g (next_new node.path) low,
         slab-same node.path (orders_of node.ranked) g order
             next,
@@ -133,19 +138,12 @@ each-kept P test f (x ∷ xs) h = elim (either (test x)) [
 ]
 
 pub children-tree : (node : Node) (paths : List (List ℕ)) → IsNode node →
-    length node.path < length node.ranked.placed →
     paths ≡ children node.ranked.mill (orders_of node.ranked) node.path →
     All (λ path. in_tree node.ranked.mill (orders_of node.ranked) path ≡ true) paths
-children-tree node paths is l e =
+children-tree node paths is e =
     let mill = node.ranked.mill in
     let orders = orders_of node.ranked in
-    let n : length orders ≡ length node.ranked.placed =
-    length-map node.ranked.placed (λ x. x.order) in
     rw e (All-from_recursion (λ path. in_tree mill orders path ≡ true)
     (children mill orders node.path) (each-kept (λ path. in_tree mill orders path ≡ true)
     (may_go_on mill orders node.path) (λ g. node.path ++ g ∷ []) (below (suc (next_new node.path)))
-    (λ g may. rw (le-leb (length (node.path ++ g ∷ [])) (length orders) (omega (
-      arith,
-      length-append node.path (g ∷ []),
-    ))) (goes-append mill orders [] node.path g
-    (and-right (leb (length node.path) (length orders)) _ is.tree) may))))
+    (λ g may. goes-append mill orders [] node.path g is.tree may)))

@@ -1,6 +1,7 @@
-mod Joins
-mod Pushes
+pub mod Joins
+pub mod Pushes
+pub mod Grown
 mod Walk
 mod Children
-mod Nodes
-mod Losses
+pub mod Nodes
+pub mod Losses

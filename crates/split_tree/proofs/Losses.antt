@@ -2,7 +2,7 @@
 use Rattle.std.proofs.Common.{ℕ, suc, ◌+◌, ◌<◌, ◌≤◌, ◌≡◌, List, length, get_or, Some, refl, sym, ap}
 use Rattle.std.proofs.Common.{◌∙◌, arith}
 use Rattle.std.proofs.lemmas.Option.{slice_get-get_or}
-use Rattle.mill_model.specs.Sets.{total}
+use Rattle.list_laws.specs.Sets.{total}
 use Rattle.mill_model.specs.Slab.{load}
 use Rattle.slab_rules.specs.OpenSlab.{OpenSlab}
 use Rattle.split_tree.specs.Node.{Node, IsGroup, AreGroups, group_of, groups_loss}
@@ -22,15 +22,15 @@ module _ (node : Node) (groups : List OpenSlab) (is : AreGroups node groups) whe
 
   module _ (g : ℕ) (group : OpenSlab) (l : g < length groups) (e : group ≡ get_or groups g group)
     where
-      here : IsGroup node g group
-      here = is.each g group (slice_get-get_or groups g group l ∙ ap Some (sym e))
+      pub group-at : IsGroup node g group
+      group-at = is.each g group (slice_get-get_or groups g group l ∙ ap Some (sym e))
 
       pub charged_below-more : (charges : List ℕ) →
           charged_below charges node (g + 1)
           ≡ charged_below charges node g + get_or charges group.load 0
       unfolding charged_below
       charged_below-more charges =
-          let one : g + 1 ≡ suc g = omega arith in rw (one, here.carries.weight) refl
+          let one : g + 1 ≡ suc g = omega arith in rw (one, group-at.carries.weight) refl
 
       pub load-within : group.load ≤ node.ranked.mill.largest
-      load-within = rw (← here.mill) here.open_slab.bounds.light
+      load-within = rw (← group-at.mill) group-at.open_slab.bounds.light

@@ -1,8 +1,6 @@
 -- What a node keeps: its path is no longer than the orders, and has no more groups than numbers.
-use Rattle.std.proofs.Common.{ℕ, suc, ◌-◌, ◌≤◌, ◌≡◌, List, [], ◌∷◌, length}
-use Rattle.std.proofs.Common.{◌++◌, map, leb, refl, sym, ap, ◌∙◌, arith, leb-true, Bool, true}
-use Rattle.std.proofs.Common.{false}
-use Rattle.std.proofs.Common.{IsTrue, ◌↔◌}
+use Rattle.std.proofs.Common.{ℕ, suc, ◌-◌, ◌≤◌, ◌≡◌, List, [], ◌∷◌, length, ◌++◌, map, refl}
+use Rattle.std.proofs.Common.{sym, ap, ◌∙◌, arith, Bool, true, false, IsTrue, ◌↔◌}
 use Rattle.std.proofs.lemmas.List.{length-map}
 use Rattle.std.proofs.lemmas.Result.{IfOk-weaker}
 use Rattle.std.specs.Prelude.{Result, IfOk}
@@ -14,14 +12,13 @@ use Rattle.mill_model.specs.Rank.{Placed, rank, starts_class_in}
 use Rattle.mill_model.specs.declared.order.Order.{Order}
 use Rattle.mill_model.specs.Tree.{next_new, last_number}
 use Rattle.mill_model.specs.declared.order.TheConstants.{MAX_ORDERS}
-use Rattle.mill_laws.proofs.Lists.{and-left}
-use Rattle.mill_laws.proofs.Paths.{tree-bound}
+use Rattle.mill_laws.proofs.Paths.{tree-bound, tree-length}
 use Rattle.mill_laws.proofs.TreeLaws.{each-leaf-is-a-plan}
 use Rattle.order_symmetry.specs.Ranked.{IsPlanOf, orders_of}
 use Rattle.order_symmetry.proofs.Limits.{few}
 use Rattle.slab_rules.specs.OpenSlab.{OpenSlab}
 use Rattle.split_tree.specs.Node.{Node, IsNode, AreGroups, group_of, least_number}
-use Rattle.mill_laws.proofs.Duality.{slab-new}
+use Rattle.mill_laws.proofs.Groups.{slab-new}
 
 module _ (node : Node) (is : IsNode node) where
   pub path-long : length node.path ≤ length node.ranked.placed
@@ -30,7 +27,7 @@ module _ (node : Node) (is : IsNode node) where
       length-map node.ranked.placed (λ x. x.order) in
       omega (
         arith,
-        leb-true _ _ (and-left (leb (length node.path) (length (orders_of node.ranked))) _ is.tree),
+        tree-length node.ranked.mill (orders_of node.ranked) node.path is.tree,
       )
 
   pub path-short : length node.path ≤ MAX_ORDERS

@@ -1,15 +1,11 @@
 -- The groups of a path with one more number.
-use Rattle.std.proofs.Common.{ℕ, zero, suc, ◌<◌, ◌≤◌, ◌≡◌, true, false, List, []}
-use Rattle.std.proofs.Common.{◌∷◌, ◌++◌, length, drop, eqb, Some, refl, ap, ◌∙◌, arith}
-use Rattle.std.proofs.Common.{inl, inr, eq-eqb, eqb-true, append-nil}
+use Rattle.std.proofs.Common.{ℕ, zero, suc, ◌≡◌, false, List, [], ◌∷◌, ◌++◌, length}
+use Rattle.std.proofs.Common.{drop, eqb, Some, refl, ap, ◌∙◌, eq-eqb}
+use Rattle.std.proofs.Common.{append-nil}
 use Rattle.std.specs.List.{slice_get}
-use Rattle.mill_model.specs.Sets.{holds}
 use Rattle.mill_model.specs.Plan.{slab}
-use Rattle.mill_model.specs.Tree.{next_new}
 use Rattle.mill_model.specs.declared.order.Order.{Order}
-use Rattle.mill_laws.proofs.Different.{either, or-cases}
-use Rattle.mill_laws.proofs.Duality.{slab-append}
-use Rattle.mill_laws.proofs.Canonical.{slab-unused}
+use Rattle.mill_model.proofs.Slabs.{slab-append}
 
 -- the order at a place is the first of those from there on
 pub drop-get : {X : Type 0} (xs : List X) (k : ℕ) (x : X) → slice_get xs k ≡ Some x →

@@ -1,6 +1,6 @@
 -- A node of the tree of paths, and its groups.
 use Rattle.std.specs.Prelude.{ℕ, ◌≡◌, true, cond, List, length, Some, slice_get}
-use Rattle.mill_model.specs.Sets.{total}
+use Rattle.list_laws.specs.Sets.{total}
 use Rattle.mill_model.specs.Slab.{load}
 use Rattle.mill_model.specs.Plan.{slab}
 use Rattle.mill_model.specs.Rank.{starts_class_in}

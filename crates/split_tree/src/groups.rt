@@ -5,8 +5,9 @@ ghost use Rattle.split_tree.specs.Groups.{slab_at, with_order};
 use mill_model::{Order, OutOfMemory};
 use slab_rules::OpenSlab;
 
-// The slab of a number, or the next new one, takes an order.
-pub(crate) fn join_group(
+/// The slab of a number takes an order. The number behind the last one is that of a new slab, which
+/// begins as the empty one.
+pub fn join_group(
     groups: &mut Vec<OpenSlab>,
     empty: &OpenSlab,
     group: u16,

@@ -6,4 +6,5 @@ mod node;
 #[cfg(test)]
 mod tests;
 
+pub use groups::join_group;
 pub use node::NodeState;

@@ -1,5 +1,6 @@
 ghost use Rattle.std.specs.Prelude.{◌≡◌, ◌<◌, ◌≤◌, ◌+◌, ◌++◌, ◌∷◌, [], List, true, All};
 ghost use Rattle.std.specs.Prelude.{length, slice_index, IfOk};
+ghost use Rattle.mill_model.specs.Charges.{Reaches, charge_of};
 ghost use Rattle.mill_model.specs.Plan.{IsLegalPlan};
 ghost use Rattle.mill_model.specs.Rank.{rank};
 ghost use Rattle.mill_model.specs.Slab.{legal};
@@ -112,8 +113,8 @@ impl<'a> NodeState<'a> {
 
     /// What all groups together are charged.
     pub fn groups_loss(&self, charges: &Charges) -> u64
-        requires { length charges.now ≡ self.now.ranked.mill.largest + 1 }
-        ensures { result ≡ groups_loss (λ load. slice_index charges.now load) self.now }
+        requires { Reaches charges.now self.now.ranked.mill }
+        ensures { result ≡ groups_loss (charge_of charges.now) self.now }
     {
         let mut loss = 0;
         for group in &self.groups {

@@ -1,5 +1,6 @@
 //! Nodes of two small trees. Orders, groups and ranks are counted from 0.
 ghost use Rattle.std.specs.Prelude.{◌≡◌, ◌≤◌, length, IfOk};
+ghost use Rattle.mill_model.specs.declared.order.TheConstants.{MAX_ORDERS};
 
 use super::*;
 use mill_model::{Charges, Instance, Order, OutOfMemory, Path};
@@ -9,7 +10,7 @@ use std::test::Fail;
 
 // The ranked orders of these weights and colours, within the limits, where 4 is the one size.
 fn ranked_of(alloc: Global, orders: &[(u32, u16)]) -> Result<Ranked, OutOfMemory>
-    requires { length orders.now ≤ 1024 }
+    requires { length orders.now ≤ MAX_ORDERS }
 {
     let mut list = Vec::with_capacity(alloc, orders.len())?;
     for &(weight, colour) in orders {

@@ -1,22 +1,22 @@
 -- One closed path: its record goes behind the others, and what it leaves open takes its place.
-use Rattle.std.proofs.Common.{ℕ, ◌+◌, ◌≤◌, ◌≡◌, true, ◌&&◌, List, [], ◌∷◌, ◌++◌, length}
-use Rattle.std.proofs.Common.{reverse, refl, sym, ap, ◌∙◌, subst, arith, append_assoc}
-use Rattle.std.proofs.Common.{length-append}
+use Rattle.std.proofs.Common.{ℕ, ◌+◌, ◌≤◌, ◌≡◌, true, ◌&&◌, List, [], ◌∷◌, ◌++◌, length, reverse}
+use Rattle.std.proofs.Common.{refl, sym, ap, ◌∙◌, subst, arith, append_assoc, length-append}
 use Rattle.std.proofs.lemmas.Bool.{and_from}
 use Rattle.std.proofs.lemmas.List.{reverse-append, reverse-reverse}
 use Rattle.std.proofs.lemmas.List.Elements.{All-append, All-tail, All-head}
 use Rattle.std.proofs.lemmas.List.Folds.{list_all-append}
 use Rattle.std.specs.List.{All, list_all}
 use Rattle.mill_model.specs.Log.{Task, sound, recorded, left_open, split_children, names_settled}
-use Rattle.mill_model.specs.Sets.{same_list, times, SameTimes}
+use Rattle.list_laws.specs.Sets.{same_list, times, SameTimes}
 use Rattle.mill_model.specs.Tree.{in_tree}
 use Rattle.mill_model.specs.declared.closing.Closing.{Closing}
 use Rattle.mill_model.specs.declared.closing.Entry.{Entry}
 use Rattle.mill_model.specs.declared.order.Order.{Order}
 use Rattle.mill_model.specs.declared.plan.Start.{Start}
-use Rattle.mill_laws.proofs.Lists.{times-append}
-use Rattle.mill_laws.proofs.Merged.{each-append, each-weaker, sound-less}
-use Rattle.refute_log.proofs.Rises.{recorded-append}
+use Rattle.list_laws.proofs.Times.{times-append}
+use Rattle.mill_laws.proofs.Merged.{sound-less}
+use Rattle.list_laws.proofs.Among.{each-append, each-weaker}
+use Rattle.mill_model.proofs.Records.{recorded-append}
 use Rattle.refute_log.specs.Fits.{fits}
 use Rattle.refute_log.specs.Rising.{rises}
 use Rattle.tree_search.specs.Search.{HasSearched, IsClosed, IsSearched}

@@ -1,8 +1,7 @@
 -- What a search that ends has found.
 use Rattle.std.proofs.Common.{ℕ, ◌+◌, ◌<◌, ◌≤◌, ◌^◌, ◌≡◌, true, List, [], ◌∷◌, ◌++◌, length}
-use Rattle.std.proofs.Common.{reverse}
-use Rattle.std.proofs.Common.{refl, sym, ap, subst, ◌∙◌, arith, get_or, append-nil, ltb-true}
-use Rattle.std.proofs.Common.{length-append}
+use Rattle.std.proofs.Common.{reverse, refl, sym, ap, subst, ◌∙◌, arith, get_or, append-nil}
+use Rattle.std.proofs.Common.{ltb-true, length-append}
 use Rattle.std.proofs.lemmas.List.{length-map, length-reverse}
 use Rattle.std.proofs.lemmas.List.Elements.{All-from_recursion}
 use Rattle.std.specs.List.{AllByRecursion, list_all}
@@ -10,24 +9,28 @@ use Rattle.mill_model.specs.Instance.{Problem, mill_of}
 use Rattle.mill_model.specs.Log.{Task, sound, recorded, names_settled, split_children, Refutes}
 use Rattle.mill_model.specs.Plan.{NoneLosesLess}
 use Rattle.mill_model.specs.Rank.{rank, ranked_orders}
-use Rattle.mill_model.specs.Sets.{same_list, times}
+use Rattle.list_laws.specs.Sets.{same_list, times}
 use Rattle.mill_model.specs.Size.{enough}
 use Rattle.mill_model.specs.declared.closing.Closing.TheVariants.{Split}
 use Rattle.mill_model.specs.declared.closing.Entry.{Entry}
 use Rattle.mill_model.specs.declared.order.Order.{Order}
 use Rattle.mill_model.specs.declared.plan.Start.{Start}
 use Rattle.mill_laws.proofs.Law.{Has, has-all}
-use Rattle.mill_laws.proofs.Lists.{times-append}
+use Rattle.list_laws.proofs.Times.{times-append}
 use Rattle.mill_laws.proofs.LogLaws.{refuted-loss-bounds}
-use Rattle.mill_laws.proofs.Merged.{each-weaker, names-left}
+use Rattle.mill_laws.proofs.Merged.{names-left}
+use Rattle.list_laws.proofs.Among.{each-weaker}
 use Rattle.mill_laws.proofs.Ranked.{rank-length}
 use Rattle.mill_laws.proofs.Thrift.{run-size}
 use Rattle.mill_laws.proofs.TreeLaws.{tree-has-at-most}
 use Rattle.refute_log.proofs.Rises.{rises-front}
 use Rattle.refute_log.specs.Fits.{fits}
 use Rattle.refute_log.specs.Logged.{IsLog}
-use Rattle.tree_search.specs.Search.{HasSearched, IsRun, IsSearched, task_for}
+use Rattle.tree_search.specs.Search.{HasSearched, IsRun, IsSearched}
 use Rattle.tree_search.proofs.Lists.{times-reverse}
+use Rattle.mill_model.specs.Charges.{ChargeTable}
+use Rattle.mill_model.specs.Log.{task_of}
+use Rattle.mill_model.specs.Charges.{charge_of}
 
 pub ranked-count : (orders : List Order) → length (ranked_orders orders) ≡ length orders
 ranked-count orders = length-map (rank orders) (λ p. p.order) ∙ rank-length 0 orders
@@ -101,27 +104,27 @@ searched-run Kept task orders from best waiting closed h = record {
           times-reverse same_list path waiting,
         )
 
-module _ (Kept : List Entry → Type 0) (problem : Problem) (charges : List ℕ) (from : ℕ)
+module _ (Kept : List Entry → Type 0) (problem : Problem) (charges : ChargeTable) (from : ℕ)
     (best : Start) (waiting : List (List ℕ)) (closed : ℕ)
-    (h : HasSearched Kept (task_for problem charges) problem.orders from best waiting closed) where
+    (h : HasSearched Kept (task_of problem (charge_of charges)) problem.orders from best waiting closed) where
   -- where no path waits, the records refute what the best plan loses,
-  pub none-waits : waiting ≡ [] → Refutes (task_for problem charges) best.loss h.log
+  pub none-waits : waiting ≡ [] → Refutes (task_of problem (charge_of charges)) best.loss h.log
   none-waits none =
-      let task = task_for problem charges in
+      let task = task_of problem (charge_of charges) in
       refuted task problem.orders from best h.log
       (subst (λ ws. IsSearched task problem.orders from best h.log (reverse ws)) none h.searched)
 
   -- so no legal plan loses less
-  pub none-loses-less : get_or charges 0 0 ≡ 0 → waiting ≡ [] →
-      NoneLosesLess (mill_of problem) (λ load. get_or charges load 0) problem.orders best.loss
-  none-loses-less free none =
-      refuted-loss-bounds (mill_of problem) (λ load. get_or charges load 0) problem.orders best.loss
-      h.log free (none-waits none)
+  pub none-loses-less : waiting ≡ [] →
+      NoneLosesLess (mill_of problem) (charge_of charges) problem.orders best.loss
+  none-loses-less none =
+      refuted-loss-bounds (mill_of problem) (charge_of charges) problem.orders best.loss
+      h.log charges.free (none-waits none)
 
   -- where one waits, the tree has more paths than were closed
   pub some-waits : 0 < length waiting → closed < enough (length problem.orders)
   some-waits some =
-      let task = task_for problem charges in
+      let task = task_of problem (charge_of charges) in
       omega (
         arith,
         tree-large task problem.orders from best h.log (reverse waiting) h.searched,

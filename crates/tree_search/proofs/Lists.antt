@@ -1,11 +1,12 @@
 -- Lists turned round, and what holds of each member.
-use Rattle.std.proofs.Common.{◌≡◌, List, [], ◌∷◌, ◌++◌, reverse, Bool}
-use Rattle.std.proofs.Common.{refl, sym, ap, ◌∙◌, arith, inl, inr, append_assoc}
+use Rattle.std.proofs.Common.{◌≡◌, List, [], ◌∷◌, ◌++◌, reverse, Bool, refl, sym, ap, ◌∙◌, arith}
+use Rattle.std.proofs.Common.{inl, inr, append_assoc}
 use Rattle.std.proofs.lemmas.Grind.{reverse_onto}
 use Rattle.std.proofs.lemmas.List.{reverse-append}
 use Rattle.std.specs.List.{AllByRecursion}
-use Rattle.mill_model.specs.Sets.{times}
-use Rattle.mill_laws.proofs.Lists.{Among, times-append}
+use Rattle.list_laws.specs.Sets.{times}
+use Rattle.list_laws.proofs.Among.{Among}
+use Rattle.list_laws.proofs.Times.{times-append}
 
 -- what holds of each member holds by recursion
 pub each-from : {X : Type 0} (P : X → Type 0) (xs : List X) → ((x : X) → Among x xs → P x) →

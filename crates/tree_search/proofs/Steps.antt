@@ -1,7 +1,7 @@
 -- How a path is closed, as its node tells it.
-use Rattle.std.proofs.Common.{ℕ, ◌<◌, ◌≤◌, ◌≡◌, ◌≢◌, true, List, [], map, length}
-use Rattle.std.proofs.Common.{refl, sym, ap, ap₂, subst, ◌∙◌, arith, eqb, leb, ltb}
-use Rattle.std.proofs.Common.{eq-eqb, le-leb, leb-true, lt-ltb}
+use Rattle.std.proofs.Common.{ℕ, ◌<◌, ◌≤◌, ◌≡◌, ◌≢◌, true, List, [], map, length, refl, sym, ap}
+use Rattle.std.proofs.Common.{ap₂, subst, ◌∙◌, arith, eqb, leb, ltb, eq-eqb, le-leb, leb-true}
+use Rattle.std.proofs.Common.{lt-ltb}
 use Rattle.std.proofs.lemmas.Bool.{and_parts, and_from}
 use Rattle.std.proofs.lemmas.List.{length-map}
 use Rattle.std.specs.List.{All, list_all}
@@ -13,29 +13,28 @@ use Rattle.mill_model.specs.Tree.{children, goes_on, in_tree, next_new}
 use Rattle.mill_model.specs.declared.closing.Closing.TheVariants.{Split, Leaf}
 use Rattle.mill_model.specs.declared.order.Order.{Order}
 use Rattle.mill_model.specs.declared.plan.Start.{Start}
-use Rattle.mill_laws.proofs.Lists.{numbers-below}
-use Rattle.mill_laws.proofs.Paths.{tree-bound}
+use Rattle.mill_laws.proofs.Groups.{numbers-below}
+use Rattle.mill_laws.proofs.Paths.{tree-bound, tree-length}
 use Rattle.order_symmetry.specs.Ranked.{RankedOrders, IsRankOf, orders_of}
 use Rattle.refute_log.specs.Fits.{path_fits}
 use Rattle.split_tree.specs.Node.{Node}
-use Rattle.tree_search.specs.Search.{IsClosed, IsPlanWithLoss, task_for}
+use Rattle.tree_search.specs.Search.{IsClosed}
+use Rattle.mill_model.specs.Charges.{ChargeTable}
+use Rattle.mill_model.specs.Best.{IsStartOf}
+use Rattle.mill_model.specs.Charges.{charge_of}
+use Rattle.mill_model.specs.Log.{task_of}
 
 -- a path of the tree is a path for its orders
 tree-fits_path : (mill : Mill) (ranked : List Order) (path : List ℕ) →
     in_tree mill ranked path ≡ true → path_fits (length ranked) path ≡ true
 tree-fits_path mill ranked path inside =
-    let parts = and_parts (leb (length path) (length ranked)) (goes_on mill ranked [] path) inside
-    in
+    let long : length path ≤ length ranked = tree-length mill ranked path inside in
     let few : next_new path ≤ length ranked =
-    omega (
-      arith,
-      tree-bound mill ranked path inside,
-      leb-true (length path) (length ranked) parts.0,
-    ) in
+    omega (arith, tree-bound mill ranked path inside, long) in
     and_from (leb (length path) (length ranked)) (list_all (λ g. ltb g (length ranked)) path)
-    parts.0 (numbers-below (length ranked) path few)
+    (le-leb (length path) (length ranked) long) (numbers-below (length ranked) path few)
 
-module _ (problem : Problem) (ranked : RankedOrders) (charges : List ℕ)
+module _ (problem : Problem) (ranked : RankedOrders) (charges : ChargeTable)
     (of : IsRankOf problem ranked) where
   same-orders : orders_of ranked ≡ ranked_orders problem.orders
   same-orders = ap (λ placed. map (λ p. p.order) placed) of.placed
@@ -60,12 +59,12 @@ module _ (problem : Problem) (ranked : RankedOrders) (charges : List ℕ)
 
     -- a leaf, by a plan that loses no more than it
     pub leaf-closed : (best new : Start) → depth ≡ all →
-        IsPlanWithLoss (task_for problem charges) problem.orders new → new.loss ≤ best.loss →
-        new.loss ≤ loss (task_for problem charges).charge node.path
-        (task_for problem charges).ranked →
-        IsClosed (task_for problem charges) problem.orders path Leaf best new
+        IsStartOf problem (charge_of charges) new → new.loss ≤ best.loss →
+        new.loss ≤ loss (task_of problem (charge_of charges)).charge node.path
+        (task_of problem (charge_of charges)).ranked →
+        IsClosed (task_of problem (charge_of charges)) problem.orders path Leaf best new
     leaf-closed best new full plan no_worse here =
-        let task = task_for problem charges in
+        let task = task_of problem (charge_of charges) in
         let at_path : new.loss ≤ loss task.charge path task.ranked =
         subst (λ (n : Node). new.loss ≤ loss task.charge n.path task.ranked) is here in
         record {
@@ -95,8 +94,8 @@ module _ (problem : Problem) (ranked : RankedOrders) (charges : List ℕ)
         depth ≤ length node.ranked.placed → depth ≢ all →
         kids ≡ children node.ranked.mill (orders_of node.ranked) node.path →
         All (λ kid. in_tree node.ranked.mill (orders_of node.ranked) kid ≡ true) kids →
-        IsPlanWithLoss (task_for problem charges) problem.orders best →
-        IsClosed (task_for problem charges) problem.orders path Split best best
+        IsStartOf problem (charge_of charges) best →
+        IsClosed (task_of problem (charge_of charges)) problem.orders path Split best best
     split-closed kids best within other are tree plan = record {
       is_sound = lt-ltb (length path) (length (ranked_orders problem.orders)) short;
       alone = refl;

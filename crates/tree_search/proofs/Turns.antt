@@ -5,15 +5,14 @@ use Rattle.std.proofs.lemmas.Bool.{and_parts, and_from}
 use Rattle.std.proofs.lemmas.List.{map-append}
 use Rattle.std.proofs.lemmas.List.Elements.{filter-append}
 use Rattle.std.specs.List.{list_all}
-use Rattle.mill_model.specs.Sets.{below}
+use Rattle.list_laws.specs.Sets.{below}
 use Rattle.mill_model.specs.Log.{Task, left_open}
 use Rattle.mill_model.specs.Tree.{next_new, may_go_on}
 use Rattle.mill_model.specs.declared.closing.Closing.{Closing}
 use Rattle.mill_model.specs.declared.closing.Closing.TheVariants.{Split, Leaf, Priced, Dominated}
-use Rattle.mill_laws.proofs.Lists.{Among, Among-append_left, Among-append_right, Among-unappend}
-use Rattle.mill_laws.proofs.Lists.{Among-unmap, Among-unfilter, all-among, all-from, below-lt}
-use Rattle.mill_laws.proofs.Lists.{each-at}
-use Rattle.mill_laws.proofs.Merged.{each-append}
+use Rattle.list_laws.proofs.Among.{Among, Among-append_left, Among-append_right, Among-unappend}
+use Rattle.list_laws.proofs.Among.{Among-unmap, Among-unfilter, all-among, all-from, below-lt}
+use Rattle.list_laws.proofs.Among.{each-at, each-append}
 use Rattle.refute_log.specs.Rising.{comes_before, rises}
 use Rattle.refute_log.proofs.Order.{before-child, before-trans, head-less, head-same}
 use Rattle.tree_search.specs.Turns.{GoesBefore, ComeInTurn}

@@ -1,32 +1,19 @@
 -- What a search through the tree of paths has found: the best plan, the records of the paths that
 -- it closed, and the paths that are still to come.
 use Rattle.std.specs.Prelude.{ℕ, ◌≡◌, ◌≤◌, true, List, [], ◌∷◌, ◌++◌, length, reverse, All}
-use Rattle.std.specs.Prelude.{slice_index}
 use Rattle.std.specs.List.{AllByRecursion, list_all}
 use Rattle.mill_model.specs.Conserved.{IsConserved}
-use Rattle.mill_model.specs.Instance.{Problem, mill_of}
 use Rattle.mill_model.specs.Log.{Task, sound, recorded, left_open, split_children, names_settled}
-use Rattle.mill_model.specs.Plan.{IsLegalPlan, loss}
-use Rattle.mill_model.specs.Sets.{same_list, SameTimes}
+use Rattle.mill_model.specs.Plan.{IsPlanWithLoss}
+use Rattle.list_laws.specs.Sets.{same_list, SameTimes}
 use Rattle.mill_model.specs.Tree.{in_tree}
 use Rattle.mill_model.specs.declared.closing.Closing.{Closing}
 use Rattle.mill_model.specs.declared.closing.Entry.{Entry}
 use Rattle.mill_model.specs.declared.order.Order.{Order}
 use Rattle.mill_model.specs.declared.plan.Start.{Start}
-use Rattle.mill_laws.specs.LogLaws.{task_of}
 use Rattle.refute_log.specs.Fits.{fits}
 use Rattle.refute_log.specs.Rising.{rises}
 use Rattle.tree_search.specs.Turns.{ComeInTurn}
-
--- a legal plan of the file's orders, with what it loses
-pub record IsPlanWithLoss (task : Task) (orders : List Order) (start : Start) : Type 0 where
-  pub legal : IsLegalPlan task.mill orders start.plan
-  pub loses : loss task.charge start.plan orders ≡ start.loss
-
--- what the orders of a problem are judged by, for charges of each load
-abbrev pub task_for : Problem → List ℕ → Task
-task_for problem charges =
-    task_of (mill_of problem) (λ load. slice_index charges load) problem.orders
 
 -- How a path of the tree is closed, where the best plan is another from then on: the record is
 -- sound for its loss and names no other path, and what it leaves open is in the tree.
@@ -37,14 +24,14 @@ pub record IsClosed (task : Task) (orders : List Order) (path : List ℕ) (closi
   pub fit : fits (length task.ranked) (record { path = path; closing = closing }) ≡ true
   pub inside : All (λ child. in_tree task.mill task.ranked child ≡ true)
       (left_open task path closing)
-  pub plan : IsPlanWithLoss task orders new
+  pub plan : IsPlanWithLoss task.mill task.charge orders new.plan new.loss
   pub no_worse : new.loss ≤ best.loss
 
 -- What holds while the tree is searched from a start on: the best plan so far, the records of the
 -- closed paths, and the paths to come, the next one first.
 pub record IsSearched (task : Task) (orders : List Order) (from : ℕ) (best : Start)
     (log : List Entry) (coming : List (List ℕ)) : Type 0 where
-  pub plan : IsPlanWithLoss task orders best
+  pub plan : IsPlanWithLoss task.mill task.charge orders best.plan best.loss
   pub no_worse : best.loss ≤ from
   pub conserved : SameTimes same_list (recorded log ++ coming) ([] ∷ split_children task log)
   pub each_sound :

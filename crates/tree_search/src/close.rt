@@ -1,11 +1,13 @@
 ghost use Rattle.std.specs.Prelude.{◌≡◌, ◌+◌, ◌≤◌, ◌++◌, true, length, reverse};
 ghost use Rattle.std.specs.Prelude.{slice_index, IfOk, OnOk};
-ghost use Rattle.mill_model.specs.Instance.{largest};
-ghost use Rattle.mill_model.specs.Log.{left_open};
+ghost use Rattle.mill_model.specs.Best.{IsStartOf};
+ghost use Rattle.mill_model.specs.Charges.{Reaches, charge_of};
+ghost use Rattle.mill_model.specs.Instance.{mill_of};
+ghost use Rattle.mill_model.specs.Log.{left_open, task_of};
 ghost use Rattle.mill_model.specs.Plan.{loss};
 ghost use Rattle.mill_model.specs.Tree.{in_tree};
 ghost use Rattle.order_symmetry.specs.Ranked.{IsRankOf, orders_of};
-ghost use Rattle.tree_search.specs.Search.{IsClosed, IsPlanWithLoss, task_for};
+ghost use Rattle.tree_search.specs.Search.{IsClosed};
 
 use mill_model::{Charges, Closing, Instance, OutOfMemory, Path, Start};
 use order_symmetry::Ranked;
@@ -34,15 +36,14 @@ fn keep_leaf(
     requires inside { in_tree node.now.ranked.mill (orders_of node.now.ranked) node.now.path
         ≡ true }
     requires full { length node.now.path ≡ length node.now.ranked.placed }
-    requires reach { length charges.now ≡ largest instance.now.sizes + 1 }
-    requires free { slice_index charges.now 0 ≡ 0 }
-    requires best { IsPlanWithLoss (task_for instance.now charges.now) instance.now.orders
+    requires reach { Reaches charges.now (mill_of instance.now) }
+    requires best { IsStartOf instance.now (charge_of charges.now)
         best.old }
     ensures plan { OnOk result (
-        IsPlanWithLoss (task_for instance.now charges.now) instance.now.orders best.new) }
+        IsStartOf instance.now (charge_of charges.now) best.new) }
     ensures no_worse { OnOk result (best.new.loss ≤ best.old.loss) }
-    ensures here { OnOk result (best.new.loss ≤ loss (task_for instance.now charges.now).charge
-        node.now.path (task_for instance.now charges.now).ranked) }
+    ensures here { OnOk result (best.new.loss ≤ loss (task_of instance.now (charge_of charges.now)).charge
+        node.now.path (task_of instance.now (charge_of charges.now)).ranked) }
 {
     let loss = node.groups_loss(charges);
     if loss < best.loss {
@@ -67,15 +68,14 @@ pub fn close(
 ) -> Result<Closing, OutOfMemory>
     requires ranked { IsRankOf instance.now ranked.now }
     requires inside { in_tree ranked.now.mill (orders_of ranked.now) path.now ≡ true }
-    requires reach { length charges.now ≡ largest instance.now.sizes + 1 }
-    requires free { slice_index charges.now 0 ≡ 0 }
-    requires best { IsPlanWithLoss (task_for instance.now charges.now) instance.now.orders
+    requires reach { Reaches charges.now (mill_of instance.now) }
+    requires best { IsStartOf instance.now (charge_of charges.now)
         best.old }
     ensures closed { IfOk result (λ closing.
-        IsClosed (task_for instance.now charges.now) instance.now.orders path.now closing
+        IsClosed (task_of instance.now (charge_of charges.now)) instance.now.orders path.now closing
         best.old best.new) }
     ensures waiting { IfOk result (λ closing. waiting.new.items ≡ waiting.old.items
-        ++ reverse (left_open (task_for instance.now charges.now) path.now closing)) }
+        ++ reverse (left_open (task_of instance.now (charge_of charges.now)) path.now closing)) }
 {
     let node = NodeState::of(alloc, ranked, path)?;
     if node.depth() == ranked.len() {

@@ -1,13 +1,15 @@
 ghost use Rattle.std.specs.Prelude.{◌≡◌, ◌+◌, ◌<◌, ◌≤◌, List, [], length, slice_index, vec_len};
 ghost use Rattle.std.specs.Prelude.{IfOk};
-ghost use Rattle.mill_model.specs.Instance.{largest, mill_of};
-ghost use Rattle.mill_model.specs.Log.{Refutes};
+ghost use Rattle.mill_model.specs.Best.{IsStartOf};
+ghost use Rattle.mill_model.specs.Charges.{Reaches, charge_of};
+ghost use Rattle.mill_model.specs.Instance.{mill_of};
+ghost use Rattle.mill_model.specs.Log.{Refutes, task_of};
 ghost use Rattle.mill_model.specs.Plan.{NoneLosesLess};
 ghost use Rattle.mill_model.specs.Size.{enough};
 ghost use Rattle.mill_model.specs.declared.closing.Entry.{Entry};
 ghost use Rattle.order_symmetry.specs.Ranked.{IsRankOf};
 ghost use Rattle.refute_log.specs.Logged.{IsLog};
-ghost use Rattle.tree_search.specs.Search.{HasSearched, IsPlanWithLoss, IsRun, task_for};
+ghost use Rattle.tree_search.specs.Search.{HasSearched, IsRun};
 
 use crate::close::close;
 use crate::recorder::{Recorder, Unrecorded};
@@ -46,19 +48,15 @@ fn close_paths<R: Recorder>(
     recorder: &mut R,
 ) -> Result<Found, OutOfMemory>
     requires ranked { IsRankOf instance.now ranked.now }
-    requires reach { length charges.now ≡ largest instance.now.sizes + 1 }
-    requires start { IsPlanWithLoss (task_for instance.now charges.now) instance.now.orders start }
+    requires reach { Reaches charges.now (mill_of instance.now) }
+    requires start { IsStartOf instance.now (charge_of charges.now) start }
     requires blank { R.keeps recorder.old [] }
     ensures searched { IfOk result (λ found. HasSearched (R.keeps recorder.new)
-        (task_for instance.now charges.now) instance.now.orders start.loss
+        (task_of instance.now (charge_of charges.now)) instance.now.orders start.loss
         found.best found.waiting.items found.closed) }
     ensures budget { IfOk result (λ found. found.closed ≤ nodes) }
     ensures spent { IfOk result (λ found. 0 < vec_len found.waiting → found.closed ≡ nodes) }
-    ensures free { slice_index charges.now 0 ≡ 0 }
 {
-    // Nothing is charged for no load.
-    let free = charges.charge(0);
-    prove!(free == 0);
     let mut best = start;
     let mut waiting = Vec::new(alloc);
     waiting.push(Path::root(alloc))?;
@@ -99,19 +97,19 @@ pub fn search_tree(
     nodes: u64,
 ) -> Result<Found, OutOfMemory>
     requires ranked { IsRankOf instance.now ranked.now }
-    requires reach { length charges.now ≡ largest instance.now.sizes + 1 }
-    requires start { IsPlanWithLoss (task_for instance.now charges.now) instance.now.orders start }
+    requires reach { Reaches charges.now (mill_of instance.now) }
+    requires start { IsStartOf instance.now (charge_of charges.now) start }
     ensures plan { IfOk result (λ found.
-        IsPlanWithLoss (task_for instance.now charges.now) instance.now.orders found.best) }
+        IsStartOf instance.now (charge_of charges.now) found.best) }
     ensures no_worse { IfOk result (λ found. found.best.loss ≤ start.loss) }
     ensures budget { IfOk result (λ found. found.closed ≤ nodes) }
     // No path of the tree is passed over: there are sound records of the closed ones.
     ensures run { IfOk result (λ found. (log : List Entry) × IsRun
-        (task_for instance.now charges.now) found.best.loss found.waiting.items found.closed log) }
+        (task_of instance.now (charge_of charges.now)) found.best.loss found.waiting.items found.closed log) }
 
     // Where all paths are closed, no legal plan loses less.
     ensures least { IfOk result (λ found. found.waiting.items ≡ [] →
-        NoneLosesLess (mill_of instance.now) (λ load. slice_index charges.now load)
+        NoneLosesLess (mill_of instance.now) (charge_of charges.now)
         instance.now.orders found.best.loss) }
     // A path waits only where the budget is spent, and it isn't enough for so many orders.
     ensures spent { IfOk result (λ found. 0 < vec_len found.waiting → found.closed ≡ nodes) }
@@ -141,24 +139,24 @@ pub fn prove_tree(
     nodes: u64,
 ) -> Result<Proved, OutOfMemory>
     requires ranked { IsRankOf instance.now ranked.now }
-    requires reach { length charges.now ≡ largest instance.now.sizes + 1 }
-    requires start { IsPlanWithLoss (task_for instance.now charges.now) instance.now.orders start }
+    requires reach { Reaches charges.now (mill_of instance.now) }
+    requires start { IsStartOf instance.now (charge_of charges.now) start }
     requires few { nodes ≤ 1000000000 }
     ensures plan { IfOk result (λ proved.
-        IsPlanWithLoss (task_for instance.now charges.now) instance.now.orders proved.found.best) }
+        IsStartOf instance.now (charge_of charges.now) proved.found.best) }
     ensures no_worse { IfOk result (λ proved. proved.found.best.loss ≤ start.loss) }
     ensures budget { IfOk result (λ proved. proved.found.closed ≤ nodes) }
     // No path of the tree is passed over: the log has sound records of the closed ones.
     ensures run { IfOk result (λ proved. IsRun
-        (task_for instance.now charges.now) proved.found.best.loss proved.found.waiting.items
+        (task_of instance.now (charge_of charges.now)) proved.found.best.loss proved.found.waiting.items
         proved.found.closed proved.log.entries) }
 
     // Where all paths are closed, the log refutes the best plan's loss, and no legal plan loses
     // less.
     ensures refutes { IfOk result (λ proved. proved.found.waiting.items ≡ [] →
-        Refutes (task_for instance.now charges.now) proved.found.best.loss proved.log.entries) }
+        Refutes (task_of instance.now (charge_of charges.now)) proved.found.best.loss proved.log.entries) }
     ensures least { IfOk result (λ proved. proved.found.waiting.items ≡ [] →
-        NoneLosesLess (mill_of instance.now) (λ load. slice_index charges.now load)
+        NoneLosesLess (mill_of instance.now) (charge_of charges.now)
         instance.now.orders proved.found.best.loss) }
     // A path waits only where the budget is spent, and it isn't enough for so many orders.
     ensures spent { IfOk result (λ proved.

@@ -3,7 +3,7 @@ use Rattle.std.proofs.Common.{ltb-true}
 use Rattle.std.proofs.lemmas.Result.{IfOk-weaker}
 use Rattle.mill_model.specs.Log.{recorded}
 use Rattle.log_checker.specs.Agenda.{wanted_path}
-use Rattle.log_checker.proofs.StepLemmas.{recorded-at}
+use Rattle.log_checker.proofs.OneRecord.{recorded-at}
 use Rattle.log_checker.proofs.check.path_of.Goals as goal
 
 pub returns-in-Child : goal.returns-in-Child

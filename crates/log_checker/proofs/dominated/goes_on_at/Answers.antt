@@ -1,4 +1,5 @@
-use Rattle.std.proofs.Common.{◌≡◌, take, arith, get_or, refl, leb, false}
+use Rattle.std.proofs.Common.{◌≡◌, ◌&&◌, Bool, true, take, arith, get_or, length, refl, leb, ltb}
+use Rattle.std.proofs.Common.{false}
 use Rattle.std.proofs.lemmas.Bool.{lt-leb}
 use Rattle.mill_model.specs.Tree.{next_new}
 use Rattle.log_checker.proofs.dominated.goes_on_at.Goals as goal
@@ -9,4 +10,9 @@ returns-then-count-g c =
     ≡ false =
     lt-leb (get_or c.args.path.now c.args.k 0) (next_new (take c.args.k c.args.path.now))
     (omega (arith, c.if-count-g.true, c.requires.count)) in
-    rw far refl
+    rw far (never (ltb (length (take c.args.k c.args.path.now))
+    (length c.args.rules.now.ranked.items)) _ _)
+  where
+    never : (b x y : Bool) → false ≡ (b && false && x && y)
+    never true x y = refl
+    never false x y = refl

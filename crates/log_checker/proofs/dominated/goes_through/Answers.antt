@@ -1,9 +1,9 @@
 use Rattle.std.proofs.Common.{◌≤◌, ◌≡◌, ◌<◌, ◌+◌, sym, ap, ◌∙◌, arith, rules, get_or, add-one, max}
 use Rattle.mill_model.specs.Tree.{next_new}
 use Rattle.log_checker.specs.Groups.{no_order}
-use Rattle.log_checker.specs.Judged.{mill_by}
-use Rattle.log_checker.proofs.GroupLemmas.{groups-more, number-below}
-use Rattle.log_checker.proofs.TreeLemmas.{goes-further, next_new-push}
+use Rattle.log_checker.specs.ByRules.{mill_by}
+use Rattle.log_checker.proofs.GroupsOfPath.{groups-more, number-below}
+use Rattle.log_checker.proofs.PathsGoOn.{goes-further, next_new-push}
 use Rattle.log_checker.proofs.dominated.goes_through.Goals as goal
 
 pub goes_on_at-on-requires-clause-seen : goal.goes_on_at-on-requires-clause-seen
@@ -19,20 +19,20 @@ join_at-requires-clause-within c =
 
 pub loop-k-preserved : goal.loop-k-preserved
 loop-k-preserved c =
-    let w : (get_or c.args.judge.now.ranked.items c.loop-k.k no_order).weight ≤ 1000000 =
+    let w : (get_or c.args.rules.now.ranked.items c.loop-k.k no_order).weight ≤ 1000000 =
     rw c.order-order.ensures.is at c.order-order.ensures.light in
     let m : c.max-count.result ≡ max c.loop-k.count (get_or c.args.path.now c.loop-k.k 0 + 1) =
     search rules in
     record {
       groups =
           rw (add-one, c.in_ok-join_at.ensures, c.order-order.ensures.is)
-          (groups-more c.loop-k.groups c.args.path.now c.args.judge.now.ranked.items c.loop-k.k
+          (groups-more c.loop-k.groups c.args.path.now c.args.rules.now.ranked.items c.loop-k.k
           no_order c.loop-k-test.true (omega arith) w c.loop-k.invariant.groups);
       count =
           m ∙ ap (λ n. max n (get_or c.args.path.now c.loop-k.k 0 + 1)) c.loop-k.invariant.count
           ∙ sym (next_new-push c.loop-k.k c.args.path.now c.loop-k-test.true);
       goes =
-          goes-further (mill_by c.args.judge.now) c.args.judge.now.ranked.items c.args.path.now
+          goes-further (mill_by c.args.rules.now) c.args.rules.now.ranked.items c.args.path.now
           c.loop-k.k c.loop-k-test.true c.loop-k.invariant.goes
           (rw (← c.goes_on_at-on.ensures) c.if-not-on.false);
     }

@@ -1,9 +1,11 @@
+-- A search by halves: all records before `low` come before the path, and all from `high` on after
+-- it.
 use Rattle.std.proofs.Common.{◌≡◌, ◌<◌, ◌+◌, ◌-◌, ◌/◌, length, sym, arith, rules, true}
-use Rattle.mill_model.specs.Sets.{same_list}
+use Rattle.list_laws.specs.Sets.{same_list}
 use Rattle.refute_log.specs.Rising.{path_order}
 use Rattle.refute_log.proofs.Order.{order-same, order-before, order-after}
 use Rattle.std.specs.declared.cmp.Ordering.TheVariants as order
-use Rattle.log_checker.proofs.StepLemmas.{recorded-at}
+use Rattle.log_checker.proofs.OneRecord.{recorded-at}
 use Rattle.log_checker.proofs.Named.{all-before, all-after, settled-between, settled-at, same-sym'}
 use Rattle.log_checker.proofs.dominated.is_settled.Goals as goal
 

@@ -3,13 +3,13 @@ use Rattle.std.proofs.Common.{take, refl, Bool, true, false}
 use Rattle.std.proofs.lemmas.List.{take_all}
 use Rattle.std.proofs.lemmas.List.Sorted.{IsNonDecreasingBy-from_sort}
 use Rattle.mill_model.specs.LiveKey.{has_colour}
-use Rattle.log_checker.proofs.ComingLemmas.{note-more, coming-from}
+use Rattle.log_checker.proofs.ComingColours.{note-more, coming-from}
 use Rattle.log_checker.proofs.keys.coming_colours.Goals as goal
 
 pub loop-i-preserved : goal.loop-i-preserved
 loop-i-preserved c =
     let n : length c.colours-colours.result.now ≤ 8 = rw c.colours-colours.ensures c.requires.few in
-    let r = note-more (has_colour (drop c.args.k c.args.judge.now.ranked.items))
+    let r = note-more (has_colour (drop c.args.k c.args.rules.now.ranked.items))
     c.colours-colours.result.now c.loop-i.coming c.note_coming-count.new.coming c.loop-i.i
     c.loop-i.count c.note_coming-count.result (get_or c.colours-colours.result.now c.loop-i.i 0)
     c.comes-comes.result c.loop-i-test.true (λ j. get_or c.colours-colours.result.now c.loop-i.i 0)
@@ -27,7 +27,7 @@ loop-i-preserved c =
 pub returns : goal.returns
 returns c =
     let cs = c.colours-colours.result.now in
-    let test = has_colour (drop c.args.k c.args.judge.now.ranked.items) in
+    let test = has_colour (drop c.args.k c.args.rules.now.ranked.items) in
     let n : length cs ≤ 8 = rw c.colours-colours.ensures c.requires.few in
     let all : take c.loop-i.i cs ≡ cs = take_all c.loop-i.i cs c.loop-i-test.false in
     let count = rw all at c.loop-i.invariant.count in

@@ -2,19 +2,19 @@ use Rattle.std.proofs.Common.{◌≡◌, ◌∙◌, refl, sym, true, drop, get_o
 use Rattle.std.proofs.Common.{ap}
 use Rattle.std.proofs.lemmas.List.{get_or_default}
 use Rattle.log_checker.specs.Groups.{nothing_seen}
-use Rattle.log_checker.specs.Judged.{mill_by}
+use Rattle.log_checker.specs.ByRules.{mill_by}
 use Rattle.log_checker.specs.Keys.{IsKey}
 use Rattle.log_checker.specs.Live.{lives}
-use Rattle.log_checker.proofs.PriceLemmas.{live-fits}
+use Rattle.log_checker.proofs.LegalGroups.{live-fits}
 use Rattle.log_checker.proofs.keys.live_group.Goals as goal
 
 pub key_of-key-requires-clause-few : goal.key_of-key-requires-clause-few
 key_of-key-requires-clause-few c =
-    let l : lives (mill_by c.args.judge.now) (drop c.args.k c.args.judge.now.ranked.items)
+    let l : lives (mill_by c.args.rules.now) (drop c.args.k c.args.rules.now.ranked.items)
     c.index-groups-g.result ≡ true = sym c.if-not-is_live.ensures in
-    let f = live-fits (mill_by c.args.judge.now) (drop c.args.k c.args.judge.now.ranked.items)
+    let f = live-fits (mill_by c.args.rules.now) (drop c.args.k c.args.rules.now.ranked.items)
     c.index-groups-g.result l in
-    omega (arith, f.1, c.args.judge.now.setting.colours)
+    omega (arith, f.1, c.args.rules.now.setting.colours)
 
 pub returns : goal.returns
 returns c =
@@ -25,9 +25,9 @@ returns c =
     record {
       some = (
         refl,
-        subst (λ s. IsKey (drop c.args.k c.args.judge.now.ranked.items) s c.key_of-key.result) is
+        subst (λ s. IsKey (drop c.args.k c.args.rules.now.ranked.items) s c.key_of-key.result) is
             c.key_of-key.ensures,
-        ap (lives (mill_by c.args.judge.now) (drop c.args.k c.args.judge.now.ranked.items)) (sym is)
+        ap (lives (mill_by c.args.rules.now) (drop c.args.k c.args.rules.now.ranked.items)) (sym is)
             ∙ sym c.if-not-is_live.ensures,
       );
       none = tt;

@@ -1,23 +1,22 @@
-use Rattle.std.proofs.Common.{◌∙◌, ◌++◌, ◌∷◌, [], sym, ap, ap₂, drop, map, filter, get_or, ℕ}
-use Rattle.std.proofs.Common.{Bool, cond}
-use Rattle.std.proofs.Common.{append-nil, subst, All}
+use Rattle.std.proofs.Common.{◌∙◌, ◌++◌, ◌∷◌, [], sym, ap, ap₂, drop, map, filter, get_or, ℕ, Bool}
+use Rattle.std.proofs.Common.{cond, append-nil, subst, All}
 use Rattle.std.proofs.lemmas.List.{map-append}
 use Rattle.std.proofs.lemmas.List.Elements.{All-push}
-use Rattle.mill_model.specs.Sets.{below}
+use Rattle.list_laws.specs.Sets.{below}
 use Rattle.log_checker.specs.Groups.{nothing_seen}
-use Rattle.log_checker.specs.Judged.{mill_by}
+use Rattle.log_checker.specs.ByRules.{mill_by}
 use Rattle.log_checker.specs.Keys.{IsKey, group_in}
 use Rattle.log_checker.specs.Live.{lives}
-use Rattle.log_checker.specs.declared.key.LiveGroup.{LiveGroup}
-use Rattle.log_checker.proofs.LiveLemmas.{below-push}
+use Rattle.log_checker.specs.declared.keys.LiveGroup.{LiveGroup}
+use Rattle.log_checker.proofs.LiveGroups.{below-push}
 use Rattle.log_checker.proofs.keys.live_groups.Goals as goal
 use Rattle.log_checker.proofs.keys.live_groups.Goals.{in-Some+in_ok-push-in-Some, in-None}
 
 pub loop-g-preserved : goal.loop-g-preserved
 loop-g-preserved c =
-    let p : ℕ → Bool = λ g. lives (mill_by c.args.judge.now)
-    (drop c.args.k c.args.judge.now.ranked.items) (get_or c.args.groups.now g nothing_seen) in
-    let has : LiveGroup → Type 0 = λ live. IsKey (drop c.args.k c.args.judge.now.ranked.items)
+    let p : ℕ → Bool = λ g. lives (mill_by c.args.rules.now)
+    (drop c.args.k c.args.rules.now.ranked.items) (get_or c.args.groups.now g nothing_seen) in
+    let has : LiveGroup → Type 0 = λ live. IsKey (drop c.args.k c.args.rules.now.ranked.items)
     (get_or c.args.groups.now live.group nothing_seen) live.key in
     elim c.match-live_group.branch [
       | in-Some+in_ok-push-in-Some w ↦ (let e = ap (λ v. v.items) w.live-is
@@ -31,7 +30,7 @@ loop-g-preserved c =
                 ∙ sym (below-push p c.loop-g.g);
             keys = subst (All has) (sym e) (All-push has c.loop-g.live.items w.in-Some.group
                 c.loop-g.invariant.keys (subst (λ g. IsKey (drop c.args.k
-                c.args.judge.now.ranked.items) (get_or c.args.groups.now g nothing_seen)
+                c.args.rules.now.ranked.items) (get_or c.args.groups.now g nothing_seen)
                 w.in-Some.group.key) (sym s.0) s.1));
           })
       | in-None w ↦ (let e = ap (λ v. v.items) w.live-is in

@@ -1,5 +1,5 @@
 use Rattle.std.proofs.Common.{sym}
-use Rattle.log_checker.proofs.KeyLemmas.{uneven}
+use Rattle.log_checker.proofs.KeysDecide.{uneven}
 use Rattle.log_checker.proofs.keys.same_keys.Goals as goal
 
 pub returns-then-a-b : goal.returns-then-a-b

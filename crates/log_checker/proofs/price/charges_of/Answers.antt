@@ -1,3 +1,4 @@
+-- Group by group: each has what its load is charged, which is a small number.
 use Rattle.std.proofs.Common.{◌≡◌, ◌+◌, ◌*◌, ◌∙◌, ◌++◌, ◌∷◌, [], ℤ, pos, length}
 use Rattle.std.proofs.Common.{length-append, All, slice_index, get_or, subst}
 use Rattle.std.proofs.Common.{ap, sym, arith, inl, inr, to_z, w64}
@@ -6,7 +7,7 @@ use Rattle.std.proofs.lemmas.Int.{ints}
 use Rattle.std.proofs.lemmas.List.{get_or_default, get_or_push, get_or_append_left}
 use Rattle.std.proofs.lemmas.List.Elements.{All-push}
 use Rattle.log_checker.specs.Groups.{nothing_seen}
-use Rattle.log_checker.specs.Tables.{IsSmall}
+use Rattle.least_slacks.specs.Cells.{IsSmall}
 use Rattle.log_checker.proofs.price.charges_of.Goals as goal
 
 pub loop-g-preserved : goal.loop-g-preserved
@@ -27,10 +28,10 @@ loop-g-preserved c =
         c.charge.ensures.small,
       ),
     ) in
-    let new : z ≡ pos (60 * slice_index c.args.judge.now.charges.items
+    let new : z ≡ pos (60 * slice_index c.args.rules.now.charges.items
     (get_or c.args.groups.now c.loop-g.g nothing_seen).load) =
     is ∙ ap (λ n. pos (60 * n)) (c.charge.ensures.is
-    ∙ ap (slice_index c.args.judge.now.charges.items) (c.load.ensures
+    ∙ ap (slice_index c.args.rules.now.charges.items) (c.load.ensures
     ∙ ap (λ s. s.load) (c.index-groups-g.is
     ∙ get_or_default c.args.groups.now c.loop-g.g c.index-groups-g.result nothing_seen
     c.loop-g-test.true))) in
@@ -47,7 +48,7 @@ loop-g-preserved c =
         | inr h ↦ (let e : c.loop-g.g ≡ g = omega arith in
             ap (λ xs. get_or xs g (pos 0)) items
             ∙ get_or_push c.loop-g.slacks.items z (pos 0) g (c.loop-g.invariant.long ∙ e)
-            ∙ subst (λ k. z ≡ pos (60 * slice_index c.args.judge.now.charges.items
+            ∙ subst (λ k. z ≡ pos (60 * slice_index c.args.rules.now.charges.items
             (get_or c.args.groups.now k nothing_seen).load)) e new)
       ];
     }

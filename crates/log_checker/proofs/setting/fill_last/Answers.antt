@@ -1,7 +1,7 @@
 use Rattle.std.proofs.Common.{◌≡◌, suc, ◌+◌, arith}
 use Rattle.std.proofs.lemmas.List.{take_all}
 use Rattle.log_checker.specs.Groups.{no_order}
-use Rattle.log_checker.proofs.EndLemmas.{ends-none, ends-more}
+use Rattle.log_checker.proofs.LastRanks.{ends-none, ends-more}
 use Rattle.log_checker.proofs.setting.fill_last.Goals as goal
 
 pub loop-rank-init : goal.loop-rank-init

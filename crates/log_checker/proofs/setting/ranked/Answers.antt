@@ -5,7 +5,7 @@ use Rattle.std.proofs.lemmas.List.Sorted.{IsNonDecreasingBy-from_sort_by_key}
 use Rattle.std.proofs.lemmas.List.Sorted.{answers_always, ties_still_rise}
 use Rattle.mill_model.specs.Instance.{IsOrder}
 use Rattle.mill_model.specs.declared.order.Order.{Order}
-use Rattle.log_checker.proofs.RankLemmas.{in-rank-is, two-sorts, falls-from}
+use Rattle.log_checker.proofs.OrdersInRank.{in-rank-is, two-sorts, falls-from}
 use Rattle.log_checker.proofs.setting.ranked.Goals as goal
 
 -- the sorts only move the orders

@@ -1,12 +1,13 @@
 use Rattle.std.proofs.Common.{◌≡◌, ◌*◌, ◌≤◌, slice_index, slice_index_or}
-use Rattle.mill_model.specs.Sets.{total}
+use Rattle.list_laws.specs.Sets.{total}
 use Rattle.log_checker.specs.Groups.{nothing_seen}
+use Rattle.mill_model.specs.declared.charges.TheConstants.{MAX_CHARGE}
 use Rattle.log_checker.proofs.sound.groups_charge.Given as goal
 
 abbrev pub invariant-loop-g : goal.invariant-loop-g
 invariant-loop-g l =
     record {
-      is : l.sum ≡ total l.g (λ g. slice_index l.judge.charges.items
+      is : l.sum ≡ total l.g (λ g. slice_index l.rules.charges.items
           (slice_index_or l.groups g nothing_seen).load);
-      small : l.sum ≤ l.g * 100000000;
+      small : l.sum ≤ l.g * MAX_CHARGE;
     }

@@ -1,9 +1,11 @@
 use Rattle.std.proofs.Common.{◌≡◌, ◌<◌, ◌≤◌, ◌∙◌, length, get_or, slice_index, rules}
 use Rattle.std.proofs.lemmas.List.{get_or_default}
+use Rattle.mill_model.specs.Charges.{charge_of}
 use Rattle.mill_model.specs.Instance.{largest, mill_of}
 use Rattle.mill_model.specs.Slab.{load, colours}
 use Rattle.mill_model.specs.Plan.{slab}
-use Rattle.plan_check.specs.Verdicts.{IsLegal, IsHeavy, IsColourful}
+use Rattle.mill_model.specs.Plan.{IsPlanWithLoss}
+use Rattle.plan_check.specs.Verdicts.{IsHeavy, IsColourful}
 use Rattle.plan_check.proofs.Judged.{legal-found, heavy-found, colourful-found}
 use Rattle.plan_check.proofs.Judged.{legal-judged, heavy-judged, colourful-judged}
 use Rattle.plan_check.proofs.judging.judge.Goals as goal
@@ -26,11 +28,11 @@ returns-then-load-from-clause-legal c = (heavy-judged _ _ _ _ _ _ (heavy c)).is_
 
 pub returns-then-load-from-clause-heavy : goal.returns-then-load-from-clause-heavy
 returns-then-load-from-clause-heavy c =
-    (heavy-judged _ (λ l. slice_index c.args.charges.now l) _ _ _ _ (heavy c)).is_heavy
+    (heavy-judged _ (charge_of c.args.charges.now) _ _ _ _ (heavy c)).is_heavy
 
 pub returns-then-load-from-clause-colourful : goal.returns-then-load-from-clause-colourful
 returns-then-load-from-clause-colourful c =
-    (heavy-judged _ (λ l. slice_index c.args.charges.now l) _ _ _ _ (heavy c)).is_colourful
+    (heavy-judged _ (charge_of c.args.charges.now) _ _ _ _ (heavy c)).is_colourful
 
 -- the slab is no heavier than the largest size, too colourful, and the lowest that isn't legal
 colourful : (c : goal.After-drop-loads-then-colours-from) →
@@ -47,7 +49,7 @@ colourful c =
     ≡ colours (slab number c.args.plan.now orders) = search rules in
     let counts : c.index-colours.result.now ≡ colours (slab number c.args.plan.now orders) =
     c.index-colours.ensures ∙ get_or_default _ number _ 0 listed ∙ there in
-    colourful-found (mill_of c.args.instance.now) (λ l. slice_index c.args.charges.now l) orders
+    colourful-found (mill_of c.args.instance.now) (charge_of c.args.charges.now) orders
     c.args.plan.now number _ _ c.loop-number.invariant within light counts (search rules)
 
 pub returns-then-colours-from-clause-legal : goal.returns-then-colours-from-clause-legal
@@ -55,19 +57,19 @@ returns-then-colours-from-clause-legal c = (colourful-judged _ _ _ _ _ _ (colour
 
 pub returns-then-colours-from-clause-heavy : goal.returns-then-colours-from-clause-heavy
 returns-then-colours-from-clause-heavy c =
-    (colourful-judged _ (λ l. slice_index c.args.charges.now l) _ _ _ _ (colourful c)).is_heavy
+    (colourful-judged _ (charge_of c.args.charges.now) _ _ _ _ (colourful c)).is_heavy
 
 pub returns-then-colours-from-clause-colourful : goal.returns-then-colours-from-clause-colourful
 returns-then-colours-from-clause-colourful c =
-    (colourful-judged _ (λ l. slice_index c.args.charges.now l) _ _ _ _ (colourful c)).is_colourful
+    (colourful-judged _ (charge_of c.args.charges.now) _ _ _ _ (colourful c)).is_colourful
 
 -- all slabs are legal
-all-legal : (c : goal.After-drop-loads-2) → IsLegal (mill_of c.args.instance.now)
-    (λ l. slice_index c.args.charges.now l) c.args.instance.now.orders c.args.plan.now
+all-legal : (c : goal.After-drop-loads-2) → IsPlanWithLoss (mill_of c.args.instance.now)
+    (charge_of c.args.charges.now) c.args.instance.now.orders c.args.plan.now
     c.loop-number.loss
 all-legal c =
     let end : c.loop-number.number ≡ length c.args.instance.now.orders = search rules in
-    legal-found (mill_of c.args.instance.now) (λ l. slice_index c.args.charges.now l)
+    legal-found (mill_of c.args.instance.now) (charge_of c.args.charges.now)
     c.args.instance.now.orders c.args.plan.now c.loop-number.loss c.requires.each
     (rw end at c.loop-number.invariant)
 

@@ -1,5 +1,5 @@
 use Rattle.std.proofs.Common.{◌≡◌, ◌∙◌, ◌<◌, ◌≤◌, length, ap, arith}
-use Rattle.mill_model.specs.Sets.{holds}
+use Rattle.list_laws.specs.Sets.{holds}
 use Rattle.plan_check.specs.Tallies.{colours_on}
 use Rattle.std.specs.List.{dedup}
 use Rattle.std.proofs.lemmas.List.{take_all}

@@ -1,28 +1,32 @@
-use Rattle.std.proofs.Common.{◌≤◌, length, sym, subst}
-use Rattle.std.specs.Io.KnownBytes.{IsAtEnd}
-use Rattle.slab_top.specs.Words.{limit_of}
-use Rattle.slab_top.specs.Answer.{IsAnswer, AnswersAgree}
+use Rattle.std.proofs.Common.{◌≡◌, ◌≤◌, length, vec_len, rules, arith, sym, subst}
 use Rattle.std.proofs.KnownBytes.{Consumes-whole}
-use Rattle.slab_top.proofs.Served.{served-whole}
+use Rattle.std.specs.Io.KnownBytes.{IsAtEnd}
+use Rattle.mill_io.specs.Bytes.{HasMoreThan}
+use Rattle.job_words.specs.Words.{limit_of}
+use Rattle.reply_text.specs.declared.outcome.Outcome.TheVariants.{Refused}
+use Rattle.reply_text.specs.declared.refusal.Refusal.TheVariants.{TooLong}
+use Rattle.slab_top.specs.Served.{Serves, IsServed}
+use Rattle.slab_top.proofs.Rights.{served-whole, served-long}
 use Rattle.slab_top.proofs.run.outcome_of.Goals as goal
 
-pub returns-in-Ok-answer-clause-served : goal.returns-in-Ok-answer-clause-served
-returns-in-Ok-answer-clause-served g c =
-    served-whole c.args.job _ _ c.in-Ok.input.items c.in-Ok-answer.outcome c.in-Ok.ensures.all
-    c.in-Ok.ensures.end
-    (subst (λ bytes. IsAnswer c.args.job bytes c.in-Ok-answer.outcome) c.deref.ensures.value
-    c.in-Ok-answer.ensures.answer)
+pub returns-in-Err-TooLong-clause-served : goal.returns-in-Err-TooLong-clause-served
+returns-in-Err-TooLong-clause-served g c =
+    let left = g.S.Source.left c.args.source.now in
+    let more : HasMoreThan c.limit-limit.result left = search rules in
+    subst (λ limit. IsServed c.args.job left (Refused (TooLong limit))) (sym c.limit-limit.ensures)
+    (served-long c.args.job left
+    (subst (λ limit. HasMoreThan limit left) c.limit-limit.ensures more))
 
-pub returns-in-Ok-answer-clause-exact : goal.returns-in-Ok-answer-clause-exact
-returns-in-Ok-answer-clause-exact g c =
-    Consumes-whole _ _ c.in-Ok.input.items
-    (λ input. AnswersAgree c.args.job input c.in-Ok-answer.outcome) c.in-Ok.ensures.all
-    c.in-Ok.ensures.end
-    (subst (λ bytes. AnswersAgree c.args.job bytes c.in-Ok-answer.outcome) c.deref.ensures.value
-    c.in-Ok-answer.ensures.exact)
+pub returns-in-Ok-serve-clause-served : goal.returns-in-Ok-serve-clause-served
+returns-in-Ok-serve-clause-served g c =
+    let count : vec_len c.in-Ok.input ≡ length c.in-Ok.input.items = search rules in
+    served-whole c.args.job _ _ c.in-Ok.input.items c.in-Ok-serve.outcome c.in-Ok.ensures.all
+    c.in-Ok.ensures.end (omega (arith, c.in-Ok.ensures.within, c.limit-limit.ensures, count))
+    (subst (λ bytes. Serves c.args.job.command c.args.job bytes c.in-Ok-serve.outcome)
+    c.deref.ensures.value c.in-Ok-serve.ensures.reply)
 
-pub returns-in-Ok-answer-clause-ended : goal.returns-in-Ok-answer-clause-ended
-returns-in-Ok-answer-clause-ended g c =
+pub returns-in-Ok-serve-clause-ended : goal.returns-in-Ok-serve-clause-ended
+returns-in-Ok-serve-clause-ended g c =
     Consumes-whole _ _ c.in-Ok.input.items
     (λ input. length input ≤ limit_of c.args.job.command
     → IsAtEnd (g.S.Source.left c.read_all.new.source)) c.in-Ok.ensures.all c.in-Ok.ensures.end

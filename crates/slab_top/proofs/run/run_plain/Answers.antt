@@ -1,61 +1,71 @@
-use Rattle.std.proofs.Common.{ℕ, List, sym, subst}
-use Rattle.std.specs.Prelude.{Option, Some, None, IfSome}
-use Rattle.slab_top.specs.declared.words.Job.{Job}
-use Rattle.slab_top.specs.declared.outcome.Outcome.TheVariants.{WrongWords}
-use Rattle.slab_top.specs.Words.{texts, AskFor}
-use Rattle.slab_top.specs.Run.{IsToBeRead}
-use Rattle.slab_top.specs.Outcome.{MayEndWith}
-use Rattle.slab_top.proofs.Served.{right-served, enough-served, ended-for}
-use Rattle.slab_top.proofs.Exact.{right-agree, wrong-agree, agree-status}
+-- What the parts of the call give, put together: an output that is right, that every right one
+-- agrees with it, and the cause of each failure.
+use Rattle.std.proofs.Common.{◌∙◌, refl, sym, subst}
+use Rattle.std.specs.Io.KnownBytes.{Appends}
+use Rattle.mill_io.specs.Bytes.{AppendsFront}
+use Rattle.job_words.specs.Words.{texts}
+use Rattle.slab_top.specs.Served.{WrongWords, Answered}
+use Rattle.slab_top.specs.Agree.{MayEndWith}
+use Rattle.slab_top.specs.Run.{IsOwnStatus}
+use Rattle.slab_top.proofs.Replying.{agree-status, outcome-own}
+use Rattle.slab_top.proofs.Rights.{right-agree, enough-served, ended-for, wrong-agree, unread-for}
 use Rattle.slab_top.proofs.run.run_plain.Goals as goal
 
-pub returns-in-Ok-text-clause-answered : goal.returns-in-Ok-text-clause-answered
-returns-in-Ok-text-clause-answered g c whole =
-    let outcome = c.in-Ok-outcome_of.outcome in (
-      outcome,
-      right-served (texts c.args.words.now) c.in-Ok.job _ outcome c.in-Ok.ensures.job
-          c.in-Ok-outcome_of.ensures.served,
-      c.write_out.ensures.status whole.written,
-      c.write_out.ensures.whole whole.written,
-    )
+pub write_out-requires : goal.write_out-requires
+write_out-requires g c = record {
+  own = subst IsOwnStatus (sym c.in-Ok-reply.ensures.status)
+      (outcome-own c.in-Ok-outcome_of.outcome);
+}
 
-pub returns-in-Ok-text-clause-front : goal.returns-in-Ok-text-clause-front
-returns-in-Ok-text-clause-front g c failed =
-    let outcome = c.in-Ok-outcome_of.outcome in (
-      outcome,
-      right-served (texts c.args.words.now) c.in-Ok.job _ outcome c.in-Ok.ensures.job
-          c.in-Ok-outcome_of.ensures.served,
-      c.write_out.ensures.front failed,
-    )
+-- Words that ask for a job: the output that was written is right,
 
-pub returns-in-Ok-text-clause-told : goal.returns-in-Ok-text-clause-told
-returns-in-Ok-text-clause-told g c whole told outcome right =
-    let own = c.in-Ok-outcome_of.outcome in (
-      own,
-      right-agree (texts c.args.words.now) c.in-Ok.job _ own c.in-Ok.ensures.job
-          (λ other asked. let same = c.in-Ok.ensures.asked other asked in cc) told
-          c.in-Ok-outcome_of.ensures.exact outcome right,
-      c.write_out.ensures.whole whole.written,
-    )
+pub returns-in-Ok-reply-clause-answered : goal.returns-in-Ok-reply-clause-answered
+returns-in-Ok-reply-clause-answered g c whole = (
+  Answered c.in-Ok-outcome_of.outcome,
+  (c.in-Ok.job, c.in-Ok.ensures.job, c.in-Ok-outcome_of.ensures.served),
+  c.write_out.ensures.status whole.written ∙ c.in-Ok-reply.ensures.status,
+  subst (Appends _ _) c.in-Ok-reply.ensures.text (c.write_out.ensures.whole whole.written),
+)
 
-pub returns-in-Ok-text-clause-exact : goal.returns-in-Ok-text-clause-exact
-returns-in-Ok-text-clause-exact g c whole told outcome right =
+pub returns-in-Ok-reply-clause-front : goal.returns-in-Ok-reply-clause-front
+returns-in-Ok-reply-clause-front g c failed = (
+  Answered c.in-Ok-outcome_of.outcome,
+  (c.in-Ok.job, c.in-Ok.ensures.job, c.in-Ok-outcome_of.ensures.served),
+  subst (AppendsFront _ _) c.in-Ok-reply.ensures.text (c.write_out.ensures.front failed),
+)
+
+-- and agrees with each other that is.
+
+pub returns-in-Ok-reply-clause-told : goal.returns-in-Ok-reply-clause-told
+returns-in-Ok-reply-clause-told g c whole told output right = (
+  Answered c.in-Ok-outcome_of.outcome,
+  right-agree (texts c.args.words.now) c.in-Ok.job _
+      (λ other asked. let same = c.in-Ok.ensures.asked other asked in cc)
+      c.in-Ok-outcome_of.outcome output c.in-Ok.ensures.job told
+      c.in-Ok-outcome_of.ensures.served right,
+  subst (Appends _ _) c.in-Ok-reply.ensures.text (c.write_out.ensures.whole whole.written),
+)
+
+pub returns-in-Ok-reply-clause-exact : goal.returns-in-Ok-reply-clause-exact
+returns-in-Ok-reply-clause-exact g c whole told output right =
     let own = c.in-Ok-outcome_of.outcome in
-    subst (MayEndWith outcome) (sym (c.write_out.ensures.status whole.written))
-    (agree-status own outcome (right-agree (texts c.args.words.now) c.in-Ok.job _ own
-    c.in-Ok.ensures.job (λ other asked. let same = c.in-Ok.ensures.asked other asked in cc) told
-    c.in-Ok-outcome_of.ensures.exact outcome right))
+    let status = c.write_out.ensures.status whole.written ∙ c.in-Ok-reply.ensures.status in
+    subst (MayEndWith output) (sym status)
+    (agree-status (Answered own) output (right-agree (texts c.args.words.now) c.in-Ok.job _
+    (λ other asked. let same = c.in-Ok.ensures.asked other asked in cc) own output
+    c.in-Ok.ensures.job told c.in-Ok-outcome_of.ensures.served right))
 
-pub returns-in-Ok-text-clause-enough : goal.returns-in-Ok-text-clause-enough
-returns-in-Ok-text-clause-enough g c =
-    enough-served (texts c.args.words.now) c.in-Ok.job _ c.in-Ok-outcome_of.outcome
-    c.write_out.result (λ other asked. let same = c.in-Ok.ensures.asked other asked in cc)
-    c.in-Ok-outcome_of.ensures.served c.write_out.ensures.status
-
-pub returns-in-Ok-text-clause-ended : goal.returns-in-Ok-text-clause-ended
-returns-in-Ok-text-clause-ended g c whole =
-    ended-for (texts c.args.words.now) c.in-Ok.job _ _
+pub returns-in-Ok-reply-clause-enough : goal.returns-in-Ok-reply-clause-enough
+returns-in-Ok-reply-clause-enough g c =
+    enough-served (texts c.args.words.now) c.in-Ok.job _
     (λ other asked. let same = c.in-Ok.ensures.asked other asked in cc)
+    c.in-Ok-outcome_of.outcome c.write_out.result c.in-Ok-outcome_of.ensures.served
+    (λ written. c.write_out.ensures.status written ∙ c.in-Ok-reply.ensures.status)
+
+pub returns-in-Ok-reply-clause-ended : goal.returns-in-Ok-reply-clause-ended
+returns-in-Ok-reply-clause-ended g c whole =
+    ended-for (texts c.args.words.now) c.in-Ok.job _
+    (λ other asked. let same = c.in-Ok.ensures.asked other asked in cc) _
     c.in-Ok-outcome_of.ensures.ended
 
 -- Words that ask for nothing.
@@ -64,34 +74,27 @@ pub returns-in-Ok-write_usage-clause-answered : goal.returns-in-Ok-write_usage-c
 returns-in-Ok-write_usage-clause-answered g c whole = (
   WrongWords,
   λ job asked. let error = c.in_default.ensures.asked job asked in absurd (cc),
-  c.status.ensures,
+  refl,
   c.in-Ok-write_usage.ensures.ok,
 )
 
 pub returns-in-Ok-write_usage-clause-told : goal.returns-in-Ok-write_usage-clause-told
-returns-in-Ok-write_usage-clause-told g c whole told outcome right = (
+returns-in-Ok-write_usage-clause-told g c whole told output right = (
   WrongWords,
   wrong-agree (texts c.args.words.now) _
-      (λ job asked. let error = c.in_default.ensures.asked job asked in absurd (cc)) outcome right,
+      (λ job asked. let error = c.in_default.ensures.asked job asked in absurd (cc)) output right,
   c.in-Ok-write_usage.ensures.ok,
 )
 
 pub returns-in-Ok-write_usage-clause-exact : goal.returns-in-Ok-write_usage-clause-exact
-returns-in-Ok-write_usage-clause-exact g c whole told outcome right =
-    subst (MayEndWith outcome) (sym c.status.ensures)
-    (agree-status WrongWords outcome (wrong-agree (texts c.args.words.now) _
-    (λ job asked. let error = c.in_default.ensures.asked job asked in absurd (cc)) outcome right))
-
--- some job is asked for, or none
-unread : (P : Type 0) (left : Option (List ℕ)) (words : List (List ℕ)) →
-    ((job : Job) → AskFor words job → ⊥) → IfSome left (λ input. IsToBeRead words input → P)
-unread P None words none = tt
-unread P (Some input) words none = λ read. absurd (none read.job read.asked)
+returns-in-Ok-write_usage-clause-exact g c whole told output right =
+    agree-status WrongWords output (wrong-agree (texts c.args.words.now) _
+    (λ job asked. let error = c.in_default.ensures.asked job asked in absurd (cc)) output right)
 
 pub returns-in-Ok-write_usage-clause-ended : goal.returns-in-Ok-write_usage-clause-ended
 returns-in-Ok-write_usage-clause-ended g c whole =
-    unread _ _ (texts c.args.words.now)
-    (λ job asked. let error = c.in_default.ensures.asked job asked in absurd (cc))
+    unread-for (texts c.args.words.now) _
+    (λ job asked. let error = c.in_default.ensures.asked job asked in absurd (cc)) _
 
 pub returns-in-Err-clause-front : goal.returns-in-Err-clause-front
 returns-in-Err-clause-front g c failed = (

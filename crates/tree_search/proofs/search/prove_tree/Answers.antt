@@ -37,7 +37,7 @@ returns-clause-refutes c = λ none.
 pub returns-clause-least : goal.returns-clause-least
 returns-clause-least c =
     none-loses-less _ c.args.instance.now c.args.charges.now _ _ _ _
-    c.in_ok-found.ensures.searched c.in_ok-found.ensures.free
+    c.in_ok-found.ensures.searched
 
 pub returns-clause-larger : goal.returns-clause-larger
 returns-clause-larger c = λ some.

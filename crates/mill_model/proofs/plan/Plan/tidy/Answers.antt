@@ -1,7 +1,7 @@
 use Rattle.std.proofs.Common.{◌≡◌, ◌+◌, ◌<◌, ◌∙◌, suc, ℕ, List, Option, rules, length, take, []}
 use Rattle.std.proofs.Common.{◌∷◌, ◌++◌, get_or, arith, ap₂, sym}
 use Rattle.std.proofs.Math.Seq.{take-suc}
-use Rattle.mill_model.specs.Sets.{different}
+use Rattle.list_laws.specs.Sets.{different}
 use Rattle.mill_model.specs.Tree.{before_first_of}
 use Rattle.mill_model.specs.Numbering.{IsNumbering}
 use Rattle.mill_model.proofs.FirstPlaces.{canonical-push}

@@ -2,7 +2,8 @@ use Rattle.std.proofs.Common.{◌≡◌, map, take, ap, ◌∙◌}
 use Rattle.std.proofs.lemmas.List.{take_all}
 use Rattle.order_symmetry.specs.Ranked.{IsRankOf}
 use Rattle.order_symmetry.specs.Numbered.{placed_of}
-use Rattle.order_symmetry.proofs.Ranks.{placed_from, placed-more, sorted-rank}
+use Rattle.order_symmetry.proofs.Ranks.{placed-more, sorted-rank}
+use Rattle.mill_model.specs.Rank.{placed_from}
 use Rattle.order_symmetry.proofs.ranked.Ranked.new.Goals as goal
 
 pub loop-home-preserved : goal.loop-home-preserved

@@ -1,6 +1,6 @@
 use Rattle.std.proofs.Common.{◌≡◌, map, take}
 use Rattle.order_symmetry.specs.Numbered.{placed_of}
-use Rattle.order_symmetry.proofs.Ranks.{placed_from}
+use Rattle.mill_model.specs.Rank.{placed_from}
 use Rattle.order_symmetry.proofs.ranked.Ranked.new.Given as goal
 
 abbrev pub invariant-loop-home : goal.invariant-loop-home

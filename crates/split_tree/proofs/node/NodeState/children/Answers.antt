@@ -75,5 +75,5 @@ returns-clause-is c = all-children c
 
 pub returns-clause-tree : goal.returns-clause-tree
 returns-clause-tree c =
-    children-tree c.args.self.now c.loop-group.paths.items c.depth.ensures.kept c.requires
+    children-tree c.args.self.now c.loop-group.paths.items c.depth.ensures.kept
     (all-children c)

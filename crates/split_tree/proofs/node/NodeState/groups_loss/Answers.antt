@@ -11,7 +11,7 @@ use Rattle.split_tree.proofs.node.NodeState.groups_loss.Goals as goal
 
 pub loop-group-init : goal.loop-group-init
 loop-group-init c = record {
-  sum = sym (charged_below-none c.args.charges.now c.args.self.now);
+  sum = sym (charged_below-none c.args.charges.now.list c.args.self.now);
   most = omega arith;
 }
 
@@ -45,17 +45,17 @@ pub loop-group-preserved : goal.loop-group-preserved
 loop-group-preserved c =
     let value = c.deref-group-items.ensures.value in
     let node : Node = record { ranked = c.self.inside.ranked.now; path = c.self.inside.path } in
-    let more : charged_below c.args.charges.now c.args.self.now (c.loop-group.group-index + 1)
-    ≡ charged_below c.args.charges.now c.args.self.now c.loop-group.group-index
-    + get_or c.args.charges.now c.group-item.result.load 0 =
-    subst (λ (node : Node). charged_below c.args.charges.now node (c.loop-group.group-index + 1)
-    ≡ charged_below c.args.charges.now node c.loop-group.group-index
-    + get_or c.args.charges.now c.group-item.result.load 0) c.self.view_is (charged_below-more node
+    let more : charged_below c.args.charges.now.list c.args.self.now (c.loop-group.group-index + 1)
+    ≡ charged_below c.args.charges.now.list c.args.self.now c.loop-group.group-index
+    + get_or c.args.charges.now.list c.group-item.result.load 0 =
+    subst (λ (node : Node). charged_below c.args.charges.now.list node (c.loop-group.group-index + 1)
+    ≡ charged_below c.args.charges.now.list node c.loop-group.group-index
+    + get_or c.args.charges.now.list c.group-item.result.load 0) c.self.view_is (charged_below-more node
     c.self.inside.groups.items c.self.invariant.1 c.loop-group.group-index c.group-item.result
-    (rw value at c.loop-group-test.true) (rw value at c.group-item.is) c.args.charges.now) in
-    let charge : c.charge-loss.result ≡ get_or c.args.charges.now c.group-item.result.load 0 =
-    c.charge-loss.ensures.is ∙ ap (λ l. get_or c.args.charges.now l 0) c.load.ensures.is in
-    let sum : c.loop-group.loss ≡ charged_below c.args.charges.now c.args.self.now
+    (rw value at c.loop-group-test.true) (rw value at c.group-item.is) c.args.charges.now.list) in
+    let charge : c.charge-loss.result ≡ get_or c.args.charges.now.list c.group-item.result.load 0 =
+    c.charge-loss.ensures.is ∙ ap (λ l. get_or c.args.charges.now.list l 0) c.load.ensures.is in
+    let sum : c.loop-group.loss ≡ charged_below c.args.charges.now.list c.args.self.now
     c.loop-group.group-index = c.loop-group.invariant.sum in
     record {
       sum = omega arith;
@@ -70,10 +70,10 @@ returns c =
     let auto : c.loop-group.group-index ≤ length c.self.inside.groups.items =
     rw value at c.loop-group.auto.group-index-end in
     let all : c.loop-group.group-index ≡ length c.self.inside.groups.items = omega arith in
-    c.loop-group.invariant.sum ∙ subst (λ (node : Node). charged_below c.args.charges.now node
-    c.loop-group.group-index ≡ groups_loss (λ l. get_or c.args.charges.now l 0) node)
+    c.loop-group.invariant.sum ∙ subst (λ (node : Node). charged_below c.args.charges.now.list node
+    c.loop-group.group-index ≡ groups_loss (λ l. get_or c.args.charges.now.list l 0) node)
     c.self.view_is (charged_below-all (record {
       ranked = c.self.inside.ranked.now;
       path = c.self.inside.path;
-    }) c.self.inside.groups.items c.self.invariant.1 c.args.charges.now c.loop-group.group-index
+    }) c.self.inside.groups.items c.self.invariant.1 c.args.charges.now.list c.loop-group.group-index
     all)

@@ -4,6 +4,6 @@ use Rattle.split_tree.proofs.node.NodeState.groups_loss.Given as goal
 
 abbrev pub invariant-loop-group : goal.invariant-loop-group
 invariant-loop-group l = record {
-  sum : l.loss ≡ charged_below l.charges l.self l.group-index;
+  sum : l.loss ≡ charged_below l.charges.list l.self l.group-index;
   most : l.loss ≤ 100000000 * l.group-index;
 }

@@ -1,7 +1,8 @@
 use Rattle.std.proofs.Common.{◌<◌, ◌≤◌, length, rules}
 use Rattle.mill_model.specs.declared.order.TheConstants.{MAX_ORDERS}
-use Rattle.split_tree.proofs.Nodes.{path-short}
-use Rattle.split_tree.proofs.Walk.{empty-is, IsOpenSlab-empty, walk-number, walk-fits, walk-more}
+use Rattle.split_tree.proofs.Nodes.{path-short, path-long}
+use Rattle.split_tree.proofs.Grown.{empty-is, IsOpenSlab-empty}
+use Rattle.split_tree.proofs.Walk.{walk-number, walk-fits, walk-more}
 use Rattle.split_tree.proofs.node.NodeState.of.Goals as goal
 
 pub overflow_cast-rank : goal.overflow_cast-rank
@@ -48,3 +49,14 @@ loop-rank-preserved c =
     (rw start (IsOpenSlab-empty c.args.ranked.now.mill
     (rw c.largest.ensures.is at c.largest.ensures.high) (rw c.p.ensures.is at c.p.ensures.low)
     (rw c.p.ensures.is at c.p.ensures.high))))
+
+pub order-requires : goal.order-requires
+order-requires c =
+    let long : length c.args.path.now ≤ length c.args.ranked.now.placed =
+    path-long (record { ranked = c.args.ranked.now; path = c.args.path.now }) (record {
+      ranked = c.largest.ensures.kept;
+      tree = c.requires;
+    }) in
+    let below : c.loop-rank.rank < length c.args.path.now =
+    rw c.numbers-numbers.ensures at c.loop-rank-test.true in
+    search rules

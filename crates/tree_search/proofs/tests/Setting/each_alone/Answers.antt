@@ -19,5 +19,5 @@ returns c =
     sym c.depth-2.ensures.is ∙ c.if-depth-len-2.false ∙ c.len-2.ensures.is
     ∙ ap (λ (n : Node). length n.ranked.placed) is in
     let leaf = c.in_ok-plan_of_leaf.ensures in
-    leaf-plan _ _ _ _ of inside full self.free _ c.groups_loss.ensures _ (leaf.is _ of.placed)
+    leaf-plan _ _ self.charges _ of inside full _ c.groups_loss.ensures _ (leaf.is _ of.placed)
     (leaf.legal _ of.placed)

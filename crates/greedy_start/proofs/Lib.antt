@@ -1,0 +1,4 @@
+pub mod Finds
+pub mod Choices
+pub mod Losses
+pub mod Wholes

@@ -1,0 +1,5 @@
+pub mod LinkedLists
+pub mod Relinked
+pub mod Moved
+pub mod Views
+pub mod Made

@@ -1,0 +1,2 @@
+pub mod HeavyOnce
+pub mod Charged

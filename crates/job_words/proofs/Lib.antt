@@ -1,0 +1,5 @@
+pub mod Names
+pub mod Rules
+pub mod Grammar
+pub mod Held
+pub mod Pieces

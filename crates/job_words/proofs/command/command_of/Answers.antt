@@ -1,0 +1,14 @@
+use Rattle.std.proofs.Common.{◌≡◌, map, refl, sym, subst}
+use Rattle.std.specs.Prelude.{IfSome}
+use Rattle.job_words.specs.Words.{spelling}
+use Rattle.job_words.specs.declared.command.TheConstants.{COMMANDS}
+use Rattle.job_words.proofs.Names.{found}
+use Rattle.job_words.proofs.command.command_of.Goals as goal
+
+pub returns-clause-some : goal.returns-clause-some
+returns-clause-some c =
+    subst (λ meaning. IfSome meaning (λ it. IfSome it (λ command.
+    c.args.word.now ≡ spelling command))) (sym c.in_ok-served.ensures)
+    (found (λ name meaning. IfSome meaning (λ command. name ≡ spelling command))
+    c.args.word.now
+    (map (λ row. (row.0.now, row.1)) COMMANDS) (refl, (refl, (refl, (refl, (tt, (tt, tt)))))))

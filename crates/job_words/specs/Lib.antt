@@ -1,0 +1,5 @@
+pub mod Table
+pub mod Options
+pub mod Words
+pub mod Reading
+pub mod Usage

@@ -1,0 +1,115 @@
+use super::*;
+use mill_io::MemSink;
+use mill_model::{Limits, OutOfMemory};
+use std::alloc::Global;
+use std::test::Fail;
+
+const USAGE: &str =
+    "usage: mill_slab solve|prove|check|verify|replay|drill [--workers N] [--nodes N] \
+    [--colours N] [--moves N] [--seed N] [--orders N]\n";
+
+// The words of a row.
+fn words_of(alloc: Global, row: &[&str]) -> Result<Vec<String>, OutOfMemory> {
+    let mut words = Vec::new(alloc);
+    for word in row {
+        words.push(String::from_str(alloc, word)?)?;
+    }
+    Ok(words)
+}
+
+// Each row: words that ask for nothing, and the place of the first wrong or missing one.
+#[test]
+fn other_words_ask_for_nothing(rt: HostRuntime) -> Result<(), Fail> {
+    let alloc = rt.alloc();
+    let rows: [(&[&str], usize); 20] = [
+        (&[], 0),
+        (&["SOLVE", "solve"], 0),
+        (&["replay"], 0),
+        (&["drill", "--moves", "1"], 0),
+        (&["--colours", "1", "solve"], 0),
+        (&["verify", "--nodes", "5"], 1),
+        (&["solve", ""], 1),
+        (&["solve", "--workers", "1"], 1),
+        (&["solve", "--moves", "1"], 1),
+        (&["solve", "--colours=1"], 1),
+        (&["solve", "--nodes"], 2),
+        (&["solve", "--nodes", "-1"], 2),
+        (&["solve", "--nodes", "1000000001"], 2),
+        (&["check", "--colours"], 2),
+        (&["solve", "--colours", "0"], 2),
+        (&["solve", "--colours", "9", "--bad"], 2),
+        (&["solve", "--colours", "+1"], 2),
+        (&["solve", "--colours", "18446744073709551617"], 2),
+        (&["prove", "--nodes", "1", "--nodes", "1"], 3),
+        (&["check", "--colours", "1", "--nodes", "1"], 3),
+    ];
+    for (row, place) in rows {
+        let words = words_of(alloc, row)?;
+        assert_eq!(rt; read_words(&words), Err(Usage { word: place }));
+    }
+    Ok(())
+}
+
+// Each row: words, and the command, nodes and colours that they ask for.
+#[test]
+fn right_words_ask_for_a_job(rt: HostRuntime) -> Result<(), Fail> {
+    let rows: [(&[&str], Command, u64, u8); 8] = [
+        (&["prove", "--nodes", "3"], Command::Prove, 3, 2),
+        (&["verify", "--colours", "1"], Command::Verify, 20_000, 1),
+        (&["solve"], Command::Solve, 20_000, 2),
+        (&["check", "--colours", "008"], Command::Check, 20_000, 8),
+        (
+            &["solve", "--colours", "00000000000000000000000000000000003"],
+            Command::Solve,
+            20_000,
+            3,
+        ),
+        (&["solve", "--nodes", "0"], Command::Solve, 0, 2),
+        (
+            &["solve", "--nodes", "1000000000"],
+            Command::Solve,
+            1_000_000_000,
+            2,
+        ),
+        (
+            &["solve", "--colours", "3", "--nodes", "008"],
+            Command::Solve,
+            8,
+            3,
+        ),
+    ];
+    for (row, command, nodes, p) in rows {
+        let words = words_of(rt.alloc(), row)?;
+        let limits = Limits {
+            nodes,
+            moves: 1000,
+            workers: 1,
+        };
+        let job = Job {
+            command,
+            limits,
+            p,
+            seed: 1,
+            orders: 40,
+        };
+        assert_eq!(rt; read_words(&words), Ok(job));
+    }
+    Ok(())
+}
+
+// The usage line, whole and where there is less and less room for it.
+#[test]
+fn the_usage_line_is_written_and_cut(rt: HostRuntime) -> Result<(), Fail> {
+    let alloc = rt.alloc();
+    let text = USAGE.as_bytes();
+    for room in 0..text.len() + 1 {
+        let mut sink = MemSink::new(alloc, room, &[])?;
+        assert_eq!(rt;
+            write_usage(&mut sink).is_ok(),
+            room == text.len(),
+            "{room}"
+        );
+        assert_eq!(rt; sink.bytes(), &text[..room], "{room}");
+    }
+    Ok(())
+}

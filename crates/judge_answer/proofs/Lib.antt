@@ -1,0 +1,4 @@
+pub mod Numbered
+mod PlanSaid
+pub mod SaidOnce
+mod Tabled

@@ -1,0 +1,11 @@
+pub mod Loads
+pub mod LaidAnew
+pub mod Betters
+pub mod Held
+pub mod Scanned
+pub mod Permuted
+pub mod Homes
+pub mod Grouped
+pub mod FileOrders
+pub mod Promise
+pub mod SameFile

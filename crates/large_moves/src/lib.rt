@@ -1,0 +1,17 @@
+//! Moves: the orders of one or two slabs are laid anew where that loses less, until no pair of
+//! slabs can be bettered so or the moves are spent.
+#![tactic(auto)]
+
+mod by_colour;
+mod closed;
+mod coloured;
+mod mover;
+mod moves;
+mod pair;
+mod scan;
+mod slabs;
+#[cfg(test)]
+mod tests;
+
+pub use closed::Closed;
+pub use moves::pair_moves;

@@ -1,0 +1,273 @@
+//! Scans of pairs of slabs: each pair is tried in turn, and after each change from the first on.
+ghost use Rattle.std.specs.Prelude.{◌≡◌, ◌+◌, ◌<◌, ◌≤◌, ◌&&◌, false, true, leb, length};
+ghost use Rattle.std.specs.Prelude.{slice_index, IfOk};
+ghost use Rattle.mill_model.specs.Charges.{Reaches, charge_of};
+ghost use Rattle.mill_model.specs.Pairs.{pair_at, pairs_with, pairs_of, pair_loss, closed_pair};
+ghost use Rattle.mill_model.specs.Plan.{slab, IsLegalPlan};
+ghost use Rattle.list_laws.specs.Sets.{holds};
+ghost use Rattle.mill_model.specs.Slab.{load};
+ghost use Rattle.large_moves.specs.Coloured.{IsByColour, AreHomes, orders_of, plan_of, homes_of};
+ghost use Rattle.large_moves.specs.Laid.{SameOrders, IsLaid, laid_loss};
+ghost use Rattle.large_moves.specs.Scans.{IsScan, ClosesPairs};
+
+use crate::by_colour::{orders_alone, read_plan};
+use crate::closed::Closed;
+use crate::coloured::Coloured;
+use crate::pair::try_split;
+use crate::scan::Scan;
+use mill_model::{Charges, Order, OutOfMemory};
+use order_symmetry::Ranked;
+use pair_split::Splitter;
+use plan_check::slab_loads;
+use std::alloc::Global;
+use std::marker::Model;
+
+/// Orders on the slabs of a mill, those of each colour together, that moves lay anew. It holds
+/// what a try needs, so that a try takes no memory.
+#[derive(Debug, Drop)]
+pub struct Mover {
+    orders: Vec<Order>,
+    plan: Vec<u16>,
+    // The load of each slab.
+    loads: Vec<u64>,
+    splitter: Splitter,
+    // Room for the orders of a pair, and for which of them go to its first slab.
+    items: Vec<Order>,
+    marks: Vec<bool>,
+}
+
+impl Model for Mover {
+    ghost use Rattle.large_moves.specs.Laid.{Laid, IsMover};
+
+    ghost Value = { Laid };
+
+    ghost view = { λ m. record {
+      mill = m.splitter;
+      orders = m.orders.items;
+      plan = m.plan.items;
+    } };
+
+    ghost invariant = { λ m. IsMover (record {
+      mill = m.splitter;
+      orders = m.orders.items;
+      plan = m.plan.items;
+    }) m.loads.items m.items.items m.marks.items };
+}
+
+impl Mover {
+    /// Lays orders by colour on the slabs that a plan of the file's orders gives them.
+    pub fn new(
+        alloc: Global,
+        ranked: &Ranked,
+        coloured: &[Coloured],
+        slabs: &[u16],
+    ) -> Result<Mover, OutOfMemory>
+        requires sorted { IsByColour ranked.now.placed coloured.now }
+        requires homes { AreHomes (homes_of coloured.now) (length slabs.now) }
+        requires legal { IsLegalPlan ranked.now.mill (orders_of coloured.now)
+            (plan_of coloured.now slabs.now) }
+        ensures { IfOk result (λ mover. mover ≡ record {
+          mill = ranked.now.mill;
+          orders = orders_of coloured.now;
+          plan = plan_of coloured.now slabs.now;
+        }) }
+    {
+        let splitter = Splitter::new(alloc, ranked.largest(), ranked.p())?;
+        let orders = orders_alone(alloc, coloured)?;
+        let plan = read_plan(alloc, coloured, slabs)?;
+        let loads = slab_loads(alloc, &orders, &plan)?;
+        let items = orders.to_vec(alloc)?;
+        let marks = vec![in alloc; false; orders.len()]?;
+        Ok(Mover {
+            orders,
+            plan,
+            loads,
+            splitter,
+            items,
+            marks,
+        })
+    }
+
+    /// The slabs of the orders.
+    pub fn plan(&self) -> &[u16]
+        ensures is { result.now ≡ self.now.plan }
+        ensures kept { IsLaid self.now }
+    {
+        &self.plan
+    }
+
+    /// What the plan loses.
+    pub fn loss(&self, charges: &Charges) -> u64
+        requires reach { Reaches charges.now self.now.mill }
+        ensures { result ≡ laid_loss (charge_of charges.now) self.now }
+    {
+        let mut loss = 0;
+        for s in 0..self.len() {
+            loss += self.slab_loss(charges, s);
+        }
+        loss
+    }
+
+    // Whether a slab is used.
+    fn is_used(&self, s: u16) -> bool
+        requires { s < length self.now.orders }
+        ensures { result ≡ holds s self.now.plan }
+    {
+        self.loads[s as usize] > 0
+    }
+
+    // Whether two slabs are a pair.
+    fn is_pair(&self, a: u16, b: u16) -> bool
+        requires first { a < length self.now.orders }
+        requires second { b < length self.now.orders }
+        ensures { result ≡ (leb a b && (holds a self.now.plan && holds b self.now.plan)) }
+    {
+        a <= b && self.is_used(a) && self.is_used(b)
+    }
+
+    // What a slab loses.
+    fn slab_loss(&self, charges: &Charges, s: u16) -> u64
+        requires slab { s < length self.now.orders }
+        requires reach { Reaches charges.now self.now.mill }
+        ensures is { result ≡ charge_of charges.now
+            (load (slab s self.now.plan self.now.orders)) }
+        ensures limit { result ≤ 100000000 }
+    {
+        charges.charge(self.loads[s as usize] as u32)
+    }
+
+    // What the orders of a pair lose.
+    fn pair_loss(&self, charges: &Charges, a: u16, b: u16) -> u64
+        requires first { a < length self.now.orders }
+        requires second { b < length self.now.orders }
+        requires reach { Reaches charges.now self.now.mill }
+        ensures is { result ≡ pair_loss (charge_of charges.now) self.now.orders
+            self.now.plan a b }
+    {
+        let first = self.slab_loss(charges, a);
+        let second = if a < b { self.slab_loss(charges, b) } else { 0 };
+        first + second
+    }
+
+    // Lays the orders of a pair anew, where a split of them loses less than they do; whether it
+    // does.
+    fn try_pair(&mut self, charges: &Charges, a: u16, b: u16, bound: u64) -> bool
+        requires reach { Reaches charges.now self.old.mill }
+        requires rise { a ≤ b }
+        requires second { b < length self.old.orders }
+        requires used { holds a self.old.plan ≡ true }
+        requires bound { bound ≡ pair_loss (charge_of charges.now) self.old.orders
+            self.old.plan a b }
+        ensures same { SameOrders self.old self.new }
+        ensures kept { result ≡ false → self.new ≡ self.old }
+        ensures closed { result ≡ false → closed_pair self.old.mill
+            (charge_of charges.now) self.old.orders self.old.plan a b ≡ true }
+        ensures less { result ≡ true → laid_loss (charge_of charges.now) self.new
+            < laid_loss (charge_of charges.now) self.old }
+    {
+        try_split(
+            &mut self.splitter,
+            &mut self.items,
+            &mut self.marks,
+            charges,
+            &self.orders,
+            &mut self.plan,
+            &mut self.loads,
+            a,
+            b,
+            bound,
+        )
+    }
+
+    // Tries a pair of slabs, if they are one that loses anything.
+    fn scan_pair(&mut self, charges: &Charges, a: u16, b: u16, left: u64) -> Scan
+        requires reach { Reaches charges.now self.old.mill }
+        requires first { a < length self.old.orders }
+        requires second { b < length self.old.orders }
+        ensures same { SameOrders self.old self.new }
+        ensures scan { IsScan (charge_of charges.now) self.old self.new
+            (pair_at self.old.plan a b) left result }
+    {
+        if !self.is_pair(a, b) {
+            return Scan::Done(left);
+        }
+        let bound = self.pair_loss(charges, a, b);
+        if bound == 0 {
+            return Scan::Done(left);
+        }
+        if left == 0 {
+            return Scan::Spent;
+        }
+        if self.try_pair(charges, a, b, bound) {
+            Scan::Changed(left - 1)
+        } else {
+            Scan::Done(left - 1)
+        }
+    }
+
+    // Tries the pairs of slab `a`.
+    fn scan_row(&mut self, charges: &Charges, a: u16, tries: u64) -> Scan
+        requires reach { Reaches charges.now self.old.mill }
+        requires first { a < length self.old.orders }
+        ensures same { SameOrders self.old self.new }
+        ensures scan { IsScan (charge_of charges.now) self.old self.new
+            (pairs_with self.old.plan a (length self.old.plan)) tries result }
+    {
+        if !self.is_used(a) {
+            return Scan::Done(tries);
+        }
+        let mut left = tries;
+        for b in a..self.len() {
+            match self.scan_pair(charges, a, b, left) {
+                Scan::Done(now) => left = now,
+                Scan::Spent => return Scan::Spent,
+                Scan::Changed(now) => return Scan::Changed(now),
+            }
+        }
+        Scan::Done(left)
+    }
+
+    // Tries all pairs.
+    fn scan(&mut self, charges: &Charges, tries: u64) -> Scan
+        requires reach { Reaches charges.now self.old.mill }
+        ensures same { SameOrders self.old self.new }
+        ensures scan { IsScan (charge_of charges.now) self.old self.new
+            (pairs_of self.old.plan) tries result }
+        ensures each { length self.old.plan ≡ length self.old.orders }
+    {
+        let mut left = tries;
+        for a in 0..self.len() {
+            match self.scan_row(charges, a, left) {
+                Scan::Done(now) => left = now,
+                Scan::Spent => return Scan::Spent,
+                Scan::Changed(now) => return Scan::Changed(now),
+            }
+        }
+        Scan::Done(left)
+    }
+
+    // How many orders there are.
+    fn len(&self) -> u16
+        ensures orders { result ≡ length self.now.orders }
+        ensures plan { result ≡ length self.now.plan }
+    {
+        self.plan.len() as u16
+    }
+
+    /// Moves until all pairs are closed, or the moves are spent.
+    pub fn close(&mut self, charges: &Charges, moves: u64) -> Closed
+        requires reach { Reaches charges.now self.old.mill }
+        ensures same { SameOrders self.old self.new }
+        ensures moved { ClosesPairs (charge_of charges.now) self.old self.new moves
+            result }
+    {
+        let mut left = moves;
+        loop {
+            match self.scan(charges, left) {
+                Scan::Done(_) => return Closed::Yes,
+                Scan::Spent => return Closed::Spent,
+                Scan::Changed(now) => left = now,
+            }
+        }
+    }
+}

@@ -1,0 +1,361 @@
+-- Items: which orders are among the first of them, and what one item or one run more lets in.
+use Rattle.std.proofs.Common.{ℕ, zero, suc, ◌+◌, ◌-◌, ◌<◌, ◌≤◌, ◌≡◌, ◌≢◌, ◌⊎◌, Bool, true, false}
+use Rattle.std.proofs.Common.{◌&&◌, not, cond, ◌||◌, List, [], ◌∷◌, length, get_or, eqb, eq-eqb}
+use Rattle.std.proofs.Common.{ne_eqb, eqb-true, ℤ, pos, Option, leb, leb-true, leb-false, refl, sym}
+use Rattle.std.proofs.Common.{ap, ◌∙◌, subst, arith, inl, inr}
+use Rattle.std.proofs.lemmas.Bool.{cases_lt}
+use Rattle.list_laws.specs.Sets.{holds}
+use Rattle.mill_model.specs.declared.order.Order.{Order}
+use Rattle.list_laws.proofs.Tests.{and-left, and-right, either, or-cases, or-left, or-right, clash}
+use Rattle.set_minima.specs.Packs.{nobody, colour_at, IsBest, IsTable, IsNext, IsNextColour, better}
+use Rattle.set_minima.specs.Packs.{with_price}
+use Rattle.set_minima.proofs.LeftOut.{single-added, single-heavy}
+use Rattle.set_minima.proofs.OneOrder.{best-added, best-heavy, best-allowed}
+use Rattle.least_slacks.specs.Cells.{cell}
+use Rattle.least_slacks.specs.Items.{item_at, AreItems, placed, owned, others, joined_in, let_in}
+use Rattle.least_slacks.specs.Items.{IsStretch, IsRun, no_place}
+use Rattle.least_slacks.specs.declared.later_orders.Item.{Item}
+use Rattle.least_slacks.proofs.OneCell.{raised}
+
+-- what is among the first items stands at a place below
+pub placed-at : (items : List Item) (t i : ℕ) → placed items t i ≡ true →
+    (s : ℕ) × (s < t) × (s < length items) × ((item_at items s).place ≡ i)
+placed-at items zero i h = absurd (grind arith)
+placed-at [] (suc t) i h = absurd (grind arith)
+placed-at (item ∷ items) (suc t) i h =
+    elim (or-cases (eqb i item.place) (placed items t i) h) [
+      | inl e ↦ (0, omega arith, omega arith, sym (eqb-true i item.place e))
+      | inr k ↦ (let r = placed-at items t i k in
+          (suc r.0, omega (arith, r.1), omega (arith, r.2), r.3))
+    ]
+
+pub place-placed : (items : List Item) (t s : ℕ) → s < t → s < length items →
+    placed items t (item_at items s).place ≡ true
+place-placed items zero s h k = absurd (omega arith)
+place-placed [] (suc t) s h k = absurd (omega arith)
+place-placed (item ∷ items) (suc t) zero h k =
+    or-left (eqb item.place item.place) _ (eq-eqb item.place item.place refl)
+place-placed (item ∷ items) (suc t) (suc s) h k =
+    or-right (eqb (item_at items s).place item.place) _
+    (place-placed items t s (omega arith) (omega arith))
+
+both : (a b : Bool) → a ≡ true → b ≡ true → (a && b) ≡ true
+both true b h k = k
+both false b h k = h
+
+clashing : (a b : ℕ) → eqb a b ≡ false → a ≢ b
+clashing a b e q = let z : eqb a b ≡ true = eq-eqb a b q in clash (eqb a b) z e
+
+module _ (rest : List Order) (items : List Item) (it : AreItems rest items) where
+  -- an item is not among those before it
+  pub not-placed : (t : ℕ) → t < length items → placed items t (item_at items t).place ≡ false
+  not-placed t h = go (placed items t (item_at items t).place) refl
+    where
+      go : (b : Bool) → placed items t (item_at items t).place ≡ b →
+          placed items t (item_at items t).place ≡ false
+      go false e = e
+      go true e =
+          let r = placed-at items t (item_at items t).place e in
+          absurd (clashing (item_at items r.0).place (item_at items t).place
+          (it.apart r.0 t r.1 h) r.3)
+
+  placed-more : (t i : ℕ) → placed items t i ≡ true → placed items (t + 1) i ≡ true
+  placed-more t i h =
+      let r = placed-at items t i h in
+      subst (λ j. placed items (t + 1) j ≡ true) r.3
+      (place-placed items (t + 1) r.0 (omega (arith, r.1)) r.2)
+
+  pub placed-wider : (s t i : ℕ) → s ≤ t → placed items s i ≡ true → placed items t i ≡ true
+  placed-wider s t i l h =
+      let r = placed-at items s i h in
+      subst (λ j. placed items t j ≡ true) r.3
+      (place-placed items t r.0 (omega (arith, r.1)) r.2)
+
+  placed-less : (t i : ℕ) → t < length items → placed items (t + 1) i ≡ true →
+      eqb i (item_at items t).place ≡ false → placed items t i ≡ true
+  placed-less t i l h n =
+      let r = placed-at items (t + 1) i h in
+      elim (cases_lt r.0 t) [
+        | inl b ↦ subst (λ j. placed items t j ≡ true) r.3 (place-placed items t r.0 b r.2)
+        | inr b ↦ (let e : r.0 ≡ t = omega (arith, r.1) in
+            absurd (clash (eqb i (item_at items t).place)
+            (eq-eqb i (item_at items t).place (sym (subst (λ s.
+            (item_at items s).place ≡ i) e r.3)))
+            n))
+      ]
+
+  pub placed-all : (t i : ℕ) → length items ≤ t → i < length rest → placed items t i ≡ true
+  placed-all t i l h =
+      let r = it.all i h in
+      subst (λ j. placed items t j ≡ true) r.2 (place-placed items t r.0 (omega (arith, r.1)) r.1)
+
+  -- one item more of the orders whose colours aren't left out
+  pub next-let_in : (out : List ℕ) (t : ℕ) → t < length items →
+      holds (colour_at rest (item_at items t).place) out ≡ false →
+      IsNext (let_in rest items out t) (let_in rest items out (t + 1)) (item_at items t).place
+  next-let_in out t l n = record {
+    new = rw (n, not-placed t l);
+    now = rw (n, place-placed items (t + 1) t (omega arith) l);
+    kept = λ i h.
+        let a : others rest out i ≡ true = and-left (others rest out i) (placed items t i) h in
+        let b : placed items t i ≡ true = and-right (others rest out i) (placed items t i) h in
+        both (others rest out i) (placed items (t + 1) i) a (placed-more t i b);
+    only = λ i h e.
+        let a : others rest out i ≡ true =
+        and-left (others rest out i) (placed items (t + 1) i) h in
+        let b : placed items (t + 1) i ≡ true =
+        and-right (others rest out i) (placed items (t + 1) i) h in
+        both (others rest out i) (placed items t i) a (placed-less t i l b e);
+  }
+
+  -- one item more of the orders whose colours were left out
+  pub next-joined : (out : List ℕ) (t : ℕ) → t < length items →
+      holds (colour_at rest (item_at items t).place) out ≡ true →
+      IsNext (joined_in rest items out t) (joined_in rest items out (t + 1))
+      (item_at items t).place
+  next-joined out t l p = record {
+    new = rw (p, not-placed t l);
+    now =
+        or-right (others rest out (item_at items t).place) _
+        (place-placed items (t + 1) t (omega arith) l);
+    kept = λ i h. elim (or-cases (others rest out i) (placed items t i) h) [
+      | inl a ↦ or-left (others rest out i) _ a
+      | inr a ↦ or-right (others rest out i) _ (placed-more t i a)
+    ];
+    only = λ i h e. elim (or-cases (others rest out i) (placed items (t + 1) i) h) [
+      | inl a ↦ or-left (others rest out i) _ a
+      | inr a ↦ or-right (others rest out i) _ (placed-less t i l a e)
+    ];
+  }
+
+  -- and of another colour
+  pub other-joined : (out : List ℕ) (t : ℕ) → t < length items →
+      holds (colour_at rest (item_at items t).place) out ≡ false → (i : ℕ) →
+      joined_in rest items out t i ≡ joined_in rest items out (t + 1) i
+  other-joined out t l n i = go (owned rest out i) refl
+    where
+      same : owned rest out i ≡ true → (b d : Bool) → placed items t i ≡ b →
+          placed items (t + 1) i ≡ d → b ≡ d
+      same o true true x y = refl
+      same o true false x y = absurd (clash (placed items (t + 1) i) (placed-more t i x) y)
+      same o false true x y =
+          elim (either (eqb i (item_at items t).place)) [
+            | inl e ↦ (let q : i ≡ (item_at items t).place = eqb-true i (item_at items t).place e in
+                absurd (clash (owned rest out i) o (rw q n)))
+            | inr e ↦ absurd (clash (placed items t i) (placed-less t i l y e) x)
+          ]
+      same o false false x y = refl
+
+      go : (b : Bool) → owned rest out i ≡ b →
+          joined_in rest items out t i ≡ joined_in rest items out (t + 1) i
+      go false e = rw e refl
+      go true e = rw e (same e (placed items t i) (placed items (t + 1) i) refl refl)
+
+-- a whole table, where one order is let in
+pub table-adds : (rest : List Order) (prices : List ℤ) → length prices ≡ length rest →
+    (before after : ℕ → Bool) (own : List ℕ) (k j : ℕ) → j < length rest → IsNext before after j →
+    holds (colour_at rest j) own ≡ true → (old new : List ℤ) →
+    ((l : ℕ) → l < length old → cell new l ≡
+    raised (get_or rest j nobody).weight (get_or prices j (pos 0)) old l) →
+    IsTable before own k rest prices (length old) (cell old) →
+    IsTable after own k rest prices (length old) (cell new)
+table-adds rest prices same before after own k j here next paid old new e p l b =
+    elim (either (leb (get_or rest j nobody).weight l)) [
+      | inl t ↦ subst (λ x. IsBest after own k rest prices l x) (sym (rw t at (e l b)))
+          (best-added rest prices same before after own k j here next paid l (leb-true _ _ t)
+          (cell old l) (cell old (l - (get_or rest j nobody).weight)) (p l b)
+          (p (l - (get_or rest j nobody).weight) (omega arith)))
+      | inr t ↦ subst (λ x. IsBest after own k rest prices l x) (sym (rw t at (e l b)))
+          (best-heavy rest prices same before after own k j here next paid l (leb-false _ _ t)
+          (cell old l) (p l b))
+    ]
+
+-- the same places by another test
+pub table-allowed : (rest : List Order) (prices : List ℤ) (before after : ℕ → Bool)
+    (own : List ℕ) (k width : ℕ) (best : ℕ → Option ℤ) →
+    ((i : ℕ) → i < length rest → before i ≡ after i) →
+    IsTable before own k rest prices width best → IsTable after own k rest prices width best
+table-allowed rest prices before after own k width best e p l b =
+    best-allowed rest prices before after own k l (best l) e (p l b)
+
+-- no order is among the first items at first
+pub none-let_in : (rest : List Order) (items : List Item) (out : List ℕ) (i : ℕ) →
+    no_place i ≡ let_in rest items out 0 i
+none-let_in rest items out i = go (others rest out i)
+  where
+    go : (b : Bool) → false ≡ (b && false)
+    go true = refl
+    go false = refl
+
+pub none-joined : (rest : List Order) (items : List Item) (out : List ℕ) (i : ℕ) →
+    others rest out i ≡ joined_in rest items out 0 i
+none-joined rest items out i = go (others rest out i)
+  where
+    go : (b : Bool) → b ≡ (b || false)
+    go true = refl
+    go false = refl
+
+-- and in the end all are
+pub all-let_in : (rest : List Order) (items : List Item) → AreItems rest items → (out : List ℕ)
+    (t i : ℕ) → length items ≤ t → i < length rest → let_in rest items out t i ≡ others rest out i
+all-let_in rest items it out t i l h = go (others rest out i) (placed-all rest items it t i l h)
+  where
+    go : (b : Bool) → placed items t i ≡ true → (b && placed items t i) ≡ b
+    go b e = rw e (end b)
+      where
+        end : (b : Bool) → (b && true) ≡ b
+        end true = refl
+        end false = refl
+
+pub all-joined : (rest : List Order) (items : List Item) → AreItems rest items → (out : List ℕ)
+    (t i : ℕ) → length items ≤ t → i < length rest → joined_in rest items out t i ≡ true
+all-joined rest items it out t i l h =
+    or-right (others rest out i) _ (placed-all rest items it t i l h)
+
+pub table-width : (rest : List Order) (prices : List ℤ) (allowed : ℕ → Bool) (own : List ℕ)
+    (k w v : ℕ) (best : ℕ → Option ℤ) → w ≡ v → IsTable allowed own k rest prices w best →
+    IsTable allowed own k rest prices v best
+table-width rest prices allowed own k w v best e p l b = p l (omega arith)
+
+-- A run of items of one colour.
+
+-- it ends where the colour does, since colours rise
+pub stretch-from : (rest : List Order) (items : List Item) → AreItems rest items → (at end : ℕ) →
+    at < end → end ≤ length items → ((s : ℕ) → s < at →
+    (item_at items s).colour < (item_at items at).colour) →
+    ((t : ℕ) → at ≤ t → t < end → (item_at items t).colour ≡ (item_at items at).colour) →
+    (end < length items → (item_at items end).colour ≢ (item_at items at).colour) →
+    IsStretch items at end
+stretch-from rest items it at end some ends before alike other = record {
+  some = some;
+  ends = ends;
+  alike = alike;
+  before = before;
+  after = λ t a b.
+      let n : (item_at items end).colour ≢ (item_at items at).colour = other (omega arith) in
+      let u : (item_at items at).colour ≤ (item_at items end).colour =
+      it.rise at end (omega arith) (omega arith) in
+      let v : (item_at items end).colour ≤ (item_at items t).colour = it.rise end t a b in
+      omega arith;
+}
+
+-- before its end stand lesser colours than behind it
+pub before-end : (items : List Item) (at end : ℕ) → IsStretch items at end → end < length items →
+    (s : ℕ) → s < end → (item_at items s).colour < (item_at items end).colour
+before-end items at end it l s h = elim (cases_lt s at) [
+  | inl b ↦ (let u : (item_at items s).colour < (item_at items at).colour = it.before s b in
+      let v : (item_at items at).colour < (item_at items end).colour =
+      it.after end (omega arith) l in
+      omega arith)
+  | inr b ↦ (let u : (item_at items s).colour ≡ (item_at items at).colour = it.alike s b h in
+      let v : (item_at items at).colour < (item_at items end).colour =
+      it.after end (omega arith) l in
+      omega arith)
+]
+
+module _ (rest : List Order) (items : List Item) (it : AreItems rest items) (out : List ℕ)
+    (at end : ℕ) (run : IsStretch items at end) where
+  abbrev its : ℕ
+  its = (item_at items at).colour
+
+  -- an order that is among the items up to the end is among those before, or of the colour
+  among-end : (i : ℕ) → placed items end i ≡ true →
+      (placed items at i ≡ true) ⊎ (colour_at rest i ≡ its)
+  among-end i h =
+      let r = placed-at items end i h in
+      elim (cases_lt r.0 at) [
+        | inl b ↦ inl (subst (λ j. placed items at j ≡ true) r.3 (place-placed items at r.0 b r.2))
+        | inr b ↦ inr (subst (λ j. colour_at rest j ≡ its) r.3
+            (sym (it.coloured r.0 r.2) ∙ run.alike r.0 b r.1))
+      ]
+
+  -- a colour that is left out lets nothing in
+  pub run-out : holds its out ≡ true → (i : ℕ) → i < length rest →
+      let_in rest items out at i ≡ let_in rest items out end i
+  run-out o i b =
+      same (let_in rest items out at i) (let_in rest items out end i)
+      (λ h. both (others rest out i) (placed items end i)
+      (and-left (others rest out i) (placed items at i) h)
+      (placed-wider rest items it at end i (let s : at < end = run.some in omega arith)
+      (and-right (others rest out i) (placed items at i) h)))
+      (λ h. let a : others rest out i ≡ true =
+      and-left (others rest out i) (placed items end i) h in
+      both (others rest out i) (placed items at i) a
+      (elim (among-end i (and-right (others rest out i) (placed items end i) h)) [
+        | inl q ↦ q
+        | inr q ↦ absurd (turned (owned rest out i) a (rw q o))
+      ]))
+    where
+      turned : (b : Bool) → not b ≡ true → b ≡ true → ⊥
+      turned true h k = cc
+      turned false h k = cc
+
+      same : (a b : Bool) → (a ≡ true → b ≡ true) → (b ≡ true → a ≡ true) → a ≡ b
+      same true b f g = sym (f refl)
+      same false true f g = g refl
+      same false false f g = refl
+
+  -- another colour is let in whole
+  pub run-new : holds its out ≡ false → IsRun rest items out at end its
+  run-new n = record {
+    order = (let s : at < end = run.some in omega arith);
+    ends = run.ends;
+    alike = λ t a b.
+        sym (it.coloured t (let e : end ≤ length items = run.ends in omega arith))
+        ∙ run.alike t a b;
+    not_out = n;
+    next = record {
+      new = λ i b h.
+          let r = placed-at items at i (and-right (others rest out i) (placed items at i) h) in
+          let l : (item_at items r.0).colour < its = run.before r.0 r.1 in
+          let e : (item_at items r.0).colour ≡ colour_at rest i =
+          it.coloured r.0 r.2 ∙ ap (colour_at rest) r.3 in
+          ne_eqb (colour_at rest i) its (λ q. absurd (omega arith));
+      kept = λ i b h. both (others rest out i) (placed items end i)
+          (and-left (others rest out i) (placed items at i) h)
+          (placed-wider rest items it at end i (let s : at < end = run.some in omega arith)
+          (and-right (others rest out i) (placed items at i) h));
+      only = λ i b h e. both (others rest out i) (placed items at i)
+          (and-left (others rest out i) (placed items end i) h)
+          (elim (among-end i (and-right (others rest out i) (placed items end i) h)) [
+            | inl q ↦ q
+            | inr q ↦ absurd (clash (eqb (colour_at rest i) its)
+                (eq-eqb (colour_at rest i) its q) e)
+          ]);
+    };
+  }
+
+-- A run of one item, which comes into a layer from the one below in one pass.
+pub layer-single : (rest : List Order) (prices : List ℤ) (items : List Item) →
+    AreItems rest items → length prices ≡ length rest → (out : List ℕ) (t colour k width : ℕ) →
+    t < length items → IsRun rest items out t (t + 1) colour → (below here new : ℕ → Option ℤ) →
+    ((l : ℕ) → l < width →
+    new l ≡ cond (leb (get_or rest (item_at items t).place nobody).weight l)
+    (better (here l) (with_price (get_or prices (item_at items t).place (pos 0))
+    (below (l - (get_or rest (item_at items t).place nobody).weight)))) (here l)) →
+    IsTable (let_in rest items out t) [] k rest prices width below →
+    IsTable (let_in rest items out t) [] (suc k) rest prices width here →
+    IsTable (let_in rest items out (t + 1)) [] (suc k) rest prices width new
+layer-single rest prices items it same out t colour k width h run below here new e p q l b =
+    let j = (item_at items t).place in
+    let inside : j < length rest = it.inside t h in
+    let its : colour_at rest j ≡ colour = run.alike t (omega arith) (omega arith) in
+    let n : holds (colour_at rest j) out ≡ false = rw its run.not_out in
+    let next = next-let_in rest items it out t h n in
+    let from_run : IsNextColour rest (let_in rest items out t) (let_in rest items out (t + 1))
+    (colour_at rest j) =
+    subst (λ c. IsNextColour rest (let_in rest items out t) (let_in rest items out (t + 1)) c)
+    (sym its) run.next in
+    elim (either (leb (get_or rest j nobody).weight l)) [
+      | inl s ↦ subst (λ x. IsBest (let_in rest items out (t + 1)) [] (suc k) rest prices l x)
+          (sym (rw s at (e l b)))
+          (single-added rest (let_in rest items out t) (let_in rest items out (t + 1)) [] prices
+          same j inside next from_run refl k l (leb-true _ _ s) (here l) (below l)
+          (below (l - (get_or rest j nobody).weight)) (q l b) (p l b)
+          (p (l - (get_or rest j nobody).weight) (omega arith)))
+      | inr s ↦ subst (λ x. IsBest (let_in rest items out (t + 1)) [] (suc k) rest prices l x)
+          (sym (rw s at (e l b)))
+          (single-heavy rest (let_in rest items out t) (let_in rest items out (t + 1)) [] prices
+          same j inside next from_run refl k l (leb-false _ _ s) (here l) (below l) (q l b)
+          (p l b))
+    ]

@@ -1,0 +1,18 @@
+use Rattle.std.proofs.Common.{get_or, pos, SFits, w64, to_z-of_z, rules}
+use Rattle.least_slacks.proofs.ItemsLetIn.{table-adds}
+use Rattle.least_slacks.proofs.best_prices.add_item.Goals as goal
+
+pub add_order-requires-clause-price : goal.add_order-requires-clause-price
+add_order-requires-clause-price c =
+    let f : SFits w64 (get_or c.args.later.now.prices.now c.args.item.place (pos 0)) = search rules
+    in
+    simp to_z-of_z (c.requires.later.priced c.args.item.place)
+
+pub returns-clause-best : goal.returns-clause-best
+returns-clause-best c before after own k next paid p =
+    let f : SFits w64 (get_or c.args.later.now.prices.now c.args.item.place (pos 0)) = search rules
+    in
+    let e = simp to_z-of_z at c.add_order.ensures.cells in
+    table-adds c.args.later.now.rest.now c.args.later.now.prices.now c.requires.later.same before
+    after own k
+    c.args.item.place c.requires.here next paid c.args.table.now c.add_order.new.table e p

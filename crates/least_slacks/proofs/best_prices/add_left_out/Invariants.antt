@@ -1,0 +1,16 @@
+use Rattle.std.proofs.Common.{ℕ, ◌+◌, ◌*◌, List, length}
+use Rattle.least_slacks.specs.Cells.{cell, AreNear}
+use Rattle.least_slacks.specs.Later.{joined_to, others_of, HaveSame, IsTableOf}
+use Rattle.mill_model.specs.declared.prices.TheConstants.{MAX_PRICE}
+use Rattle.least_slacks.proofs.best_prices.add_left_out.Given as goal
+
+abbrev pub invariant-loop-t : goal.invariant-loop-t
+invariant-loop-t l = record {
+  best :
+      (own : List ℕ) (k : ℕ) → HaveSame l.later own l.out →
+      IsTableOf l.later (others_of l.later l.out) own k
+      (length l.initial.table) (cell l.initial.table) →
+      IsTableOf l.later (joined_to l.later l.out l.t) own k
+      (length l.initial.table) (cell l.table);
+  near : AreNear (200000000000000000 + l.t * MAX_PRICE) l.table;
+}

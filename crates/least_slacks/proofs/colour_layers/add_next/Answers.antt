@@ -1,0 +1,29 @@
+use Rattle.std.proofs.Common.{◌≡◌, [], true, false, length, sym, ◌+◌, ◌*◌}
+use Rattle.list_laws.specs.Sets.{holds}
+use Rattle.least_slacks.specs.Cells.{cell}
+use Rattle.least_slacks.specs.Items.{item_at}
+use Rattle.least_slacks.specs.Later.{let_to}
+use Rattle.least_slacks.proofs.ItemsLetIn.{run-out, run-new, table-allowed}
+use Rattle.least_slacks.proofs.colour_layers.add_next.Goals as goal
+
+pub returns-then-not-has_colour-clause-best : goal.returns-then-not-has_colour-clause-best
+returns-then-not-has_colour-clause-best c p =
+    let n : holds (item_at c.args.later.now.items.now c.args.run.0).colour c.args.out.now ≡ false =
+    sym c.if-not-has_colour.ensures in
+    c.add_colour.ensures.best c.args.out.now (item_at c.args.later.now.items.now
+    c.args.run.0).colour
+    (run-new c.args.later.now.rest.now c.args.later.now.items.now c.requires.later.sorted
+    c.args.out.now c.args.run.0
+    c.args.run.1 c.requires.stretch n) p
+
+pub returns-else-not-has_colour-clause-best : goal.returns-else-not-has_colour-clause-best
+returns-else-not-has_colour-clause-best c p t b =
+    let o : holds (item_at c.args.later.now.items.now c.args.run.0).colour c.args.out.now ≡ true =
+    sym c.if-not-has_colour.ensures in
+    table-allowed c.args.later.now.rest.now c.args.later.now.prices.now
+    (let_to c.args.later.now c.args.out.now c.args.run.0)
+    (let_to c.args.later.now c.args.out.now c.args.run.1) [] t
+    (length c.args.table.now) (λ l. cell c.args.tables.now (t * length c.args.table.now + l))
+    (run-out c.args.later.now.rest.now c.args.later.now.items.now c.requires.later.sorted
+    c.args.out.now c.args.run.0
+    c.args.run.1 c.requires.stretch o) (p t b)

@@ -1,0 +1,17 @@
+use Rattle.std.proofs.Common.{ℕ, ℤ, List, Bool, ◌+◌, ◌*◌, length, slice_index}
+use Rattle.mill_model.specs.declared.order.Order.{Order}
+use Rattle.set_minima.specs.Packs.{IsTable, IsTop}
+use Rattle.set_minima.specs.Joins.{gain, Packed}
+use Rattle.least_slacks.specs.Cells.{cell, found, IsNear}
+use Rattle.mill_model.specs.declared.prices.TheConstants.{MAX_PRICE}
+use Rattle.least_slacks.proofs.least_slack.best_gain.Given as goal
+
+abbrev pub invariant-loop-l : goal.invariant-loop-l
+invariant-loop-l l = record {
+  top :
+      (allowed : ℕ → Bool) (own : List ℕ) (k : ℕ) (rest : List Order) (prices : List ℤ) →
+      IsTable allowed own k rest prices (length l.table) (cell l.table) →
+      IsTop (Packed allowed own k rest 0 l.l)
+      (gain (λ i. slice_index l.charges i) l.load rest prices) (found l.best);
+  near : IsNear (300000000000000000 + l.l * MAX_PRICE) l.best;
+}

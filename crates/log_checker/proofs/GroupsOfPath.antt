@@ -1,0 +1,210 @@
+-- Groups of a path, one order at a time.
+use Rattle.std.proofs.Common.{ℕ, zero, suc, ◌+◌, ◌<◌, ◌≤◌, ◌≡◌, ◌⊎◌, Bool, true, false, cond, ◌&&◌}
+use Rattle.std.proofs.Common.{◌||◌, List, [], ◌∷◌, ◌++◌, map, length, take, get_or, eqb, leb, refl}
+use Rattle.std.proofs.Common.{sym, ap, ap₂, ◌∙◌, subst, arith, inl, inr, length-append, eq-eqb}
+use Rattle.std.proofs.Common.{ne_eqb, eqb-true, set, get_or-set_same, get_or-set_other}
+use Rattle.std.proofs.Common.{◌*◌, ◌≢◌}
+use Rattle.std.proofs.lemmas.List.{take_all, length-set, append-nil, get_or_past, map-append}
+use Rattle.list_laws.specs.Sets.{holds, different}
+use Rattle.mill_model.specs.Slab.{Mill, load, colours, legal}
+use Rattle.mill_model.specs.Plan.{slab}
+use Rattle.mill_model.specs.Tree.{next_new}
+use Rattle.mill_model.specs.LiveKey.{has_colour}
+use Rattle.mill_model.specs.declared.order.Order.{Order}
+use Rattle.mill_model.proofs.Slabs.{slab-unused, load-append}
+use Rattle.list_laws.proofs.Tests.{either}
+use Rattle.list_laws.proofs.Different.{holds-append, different-push}
+use Rattle.mill_model.specs.declared.order.TheConstants.{MAX_ORDERS}
+use Rattle.log_checker.specs.Groups.{Seen, joined, may_be, IsSeen, nothing_seen, AreGroups}
+
+colours-push : (orders : List Order) (o : Order) →
+    colours (orders ++ o ∷ []) ≡ cond (has_colour orders o.colour) (colours orders)
+    (suc (colours orders))
+colours-push orders o =
+    ap different (map-append (λ x. x.colour) orders (o ∷ []))
+    ∙ different-push o.colour (map (λ x. x.colour) orders)
+
+pub has-push : (orders : List Order) (o : Order) (c : ℕ) →
+    has_colour (orders ++ o ∷ []) c ≡ (has_colour orders c || (eqb c o.colour || false))
+has-push orders o c =
+    ap (holds c) (map-append (λ x. x.colour) orders (o ∷ []))
+    ∙ holds-append c (map (λ x. x.colour) orders) (o.colour ∷ [])
+
+-- one more order
+pub seen-push : (seen : Seen) (orders : List Order) (o : Order) → IsSeen seen orders →
+    IsSeen (joined seen o) (orders ++ o ∷ [])
+seen-push seen orders o s = record {
+  weighs =
+      let a : load (orders ++ o ∷ []) ≡ load orders + load (o ∷ []) =
+      load-append orders (o ∷ []) in let b : seen.load ≡ load orders = s.weighs in omega arith;
+  counts = rw colours-push (number (holds o.colour seen.colours) (s.has o.colour));
+  has = λ c. rw has-push (same c (holds o.colour seen.colours) refl);
+}
+  where
+    number : (b : Bool) → b ≡ has_colour orders o.colour →
+        length (cond b seen.colours (seen.colours ++ o.colour ∷ [])) ≡ cond
+        (has_colour orders o.colour) (colours orders) (suc (colours orders))
+    number true e = rw (← e) s.counts
+    number false e =
+        rw (← e) (let a : length (seen.colours ++ o.colour ∷ []) ≡ length seen.colours + 1 =
+        length-append seen.colours (o.colour ∷ []) in let b : length seen.colours ≡ colours orders =
+        s.counts in omega arith)
+
+    or-true : (b : Bool) → true ≡ (b || (true || false))
+    or-true true = refl
+    or-true false = refl
+
+    or-false : (b : Bool) → b ≡ (b || (false || false))
+    or-false true = refl
+    or-false false = refl
+
+    same : (c : ℕ) (b : Bool) → holds o.colour seen.colours ≡ b →
+        holds c (cond b seen.colours (seen.colours ++ o.colour ∷ [])) ≡ (has_colour orders c
+        || (eqb c o.colour || false))
+    same c false e =
+        holds-append c seen.colours (o.colour ∷ [])
+        ∙ ap (λ b. b || (eqb c o.colour || false)) (s.has c)
+    same c true e = elim (either (eqb c o.colour)) [
+      | inl q ↦ (let k : c ≡ o.colour = eqb-true c o.colour q in
+          rw (q, ap (λ z. holds z seen.colours) k, e) (or-true (has_colour orders c)))
+      | inr q ↦ rw q (s.has c ∙ or-false (has_colour orders c))
+    ]
+
+pub seen-none : IsSeen (record { load = 0; colours = [] }) []
+seen-none = record { weighs = refl; counts = refl; has = λ c. refl }
+
+-- whether a group may take one more order
+pub may_be-legal : (mill : Mill) (seen : Seen) (orders : List Order) → IsSeen seen orders →
+    may_be mill seen ≡ legal mill orders
+may_be-legal mill seen orders s =
+    ap₂ (λ a b. leb a mill.largest && leb b mill.most_colours) s.weighs s.counts
+
+-- one more order of the slabs
+pub slab-more : (s i : ℕ) (plan : List ℕ) (orders : List Order) (d : Order) → i < length plan →
+    i < length orders → slab s (take (suc i) plan) orders ≡ slab s (take i plan) orders
+    ++ cond (eqb s (get_or plan i 0)) (get_or orders i d ∷ []) []
+slab-more s i [] orders d h k = absurd (omega arith)
+slab-more s i (t ∷ plan) [] d h k = absurd (omega arith)
+slab-more s zero (t ∷ plan) (o ∷ orders) d h k = refl
+slab-more s (suc i) (t ∷ plan) (o ∷ orders) d h k =
+    let ih : slab s (take (suc i) plan) orders ≡ slab s (take i plan) orders
+    ++ cond (eqb s (get_or plan i 0)) (get_or orders i d ∷ []) [] =
+    slab-more s i plan orders d (omega arith) (omega arith) in
+    step (eqb s t) (slab s (take (suc i) plan) orders) (slab s (take i plan) orders)
+    (cond (eqb s (get_or plan i 0)) (get_or orders i d ∷ []) []) ih
+  where
+    step : (b : Bool) (x y z : List Order) → x ≡ y ++ z → cond b (o ∷ x) x ≡ cond b (o ∷ y) y ++ z
+    step true x y z e = ap (λ l. o ∷ l) e
+    step false x y z e = e
+
+pub number-below : (i : ℕ) (path : List ℕ) → i < length path → get_or path i 0 < next_new path
+number-below i [] h = absurd (omega arith)
+number-below zero (g ∷ path) h = omega arith
+number-below (suc i) (g ∷ path) h =
+    let ih : get_or path i 0 < next_new path = number-below i path (omega arith) in omega arith
+
+-- the groups of the first numbers of a path
+pub record GroupsTo (groups : List Seen) (path : List ℕ) (ranked : List Order) (i : ℕ) : Type 0
+  where
+    pub count : length groups ≡ next_new path
+    pub seen : (g : ℕ) → g < next_new path → IsSeen (get_or groups g nothing_seen)
+        (slab g (take i path) ranked)
+    pub light : (g : ℕ) → g < next_new path → (get_or groups g nothing_seen).load ≤ i * 1000000
+
+pub groups-more : (groups : List Seen) (path : List ℕ) (ranked : List Order) (i : ℕ) (d : Order) →
+    i < length path → i < length ranked → (get_or ranked i d).weight ≤ 1000000 →
+    GroupsTo groups path ranked i →
+    GroupsTo (set groups (get_or path i 0) (joined (get_or groups (get_or path i 0) nothing_seen)
+    (get_or ranked i d))) path ranked (suc i)
+groups-more groups path ranked i d h k w it = record {
+  count = rw length-set it.count;
+  seen = λ g l. rw (slab-more g i path ranked d h k) (elim (either (eqb g (get_or path i 0))) [
+    | inl e ↦ (let q : g ≡ get_or path i 0 = eqb-true g (get_or path i 0) e in
+        rw (e, q) (here g l q))
+    | inr e ↦ (let q : g ≢ get_or path i 0 = differ g (get_or path i 0) e in
+        rw (e, get_or-set_other) (rw append-none (it.seen g l)))
+  ]);
+  light = λ g l. elim (either (eqb g (get_or path i 0))) [
+    | inl e ↦ (let q : g ≡ get_or path i 0 = eqb-true g (get_or path i 0) e in rw q (heavy g l q))
+    | inr e ↦ (let q : g ≢ get_or path i 0 = differ g (get_or path i 0) e in
+        rw get_or-set_other (let b : (get_or groups g nothing_seen).load ≤ i * 1000000 =
+        it.light g l in omega arith))
+  ];
+}
+  where
+    differ : (a b : ℕ) → eqb a b ≡ false → a ≢ b
+    differ a b e q = let z : eqb a b ≡ true = eq-eqb a b q in let y : true ≡ false = rw z at e in cc
+
+    append-none : {xs : List Order} → xs ++ [] ≡ xs
+    append-none {xs} = append-nil xs
+
+    put : get_or (set groups (get_or path i 0) (joined (get_or groups (get_or path i 0)
+        nothing_seen) (get_or ranked i d))) (get_or path i 0) nothing_seen ≡ joined
+        (get_or groups (get_or path i 0) nothing_seen) (get_or ranked i d)
+    put =
+        get_or-set_same groups (get_or path i 0) (joined
+        (get_or groups (get_or path i 0) nothing_seen) (get_or ranked i d)) nothing_seen
+        (let a : get_or path i 0 < next_new path = number-below i path h in
+        let b : length groups ≡ next_new path = it.count in omega arith)
+
+    here : (g : ℕ) → g < next_new path → g ≡ get_or path i 0 →
+        IsSeen (get_or (set groups (get_or path i 0) (joined
+        (get_or groups (get_or path i 0) nothing_seen) (get_or ranked i d))) (get_or path i 0)
+        nothing_seen) (slab (get_or path i 0) (take i path) ranked ++ get_or ranked i d ∷ [])
+    here g l q =
+        subst (λ x. IsSeen x (slab (get_or path i 0) (take i path) ranked
+        ++ get_or ranked i d ∷ [])) (sym put) (seen-push
+        (get_or groups (get_or path i 0) nothing_seen) (slab (get_or path i 0) (take i path) ranked)
+        (get_or ranked i d) (it.seen (get_or path i 0) (number-below i path h)))
+
+    heavy : (g : ℕ) → g < next_new path → g ≡ get_or path i 0 →
+        (get_or (set groups (get_or path i 0) (joined (get_or groups (get_or path i 0) nothing_seen)
+        (get_or ranked i d))) (get_or path i 0) nothing_seen).load ≤ suc i * 1000000
+    heavy g l q =
+        subst (λ (x : Seen). x.load ≤ suc i * 1000000) (sym put)
+        (let b : (get_or groups (get_or path i 0) nothing_seen).load ≤ i * 1000000 =
+        it.light (get_or path i 0) (number-below i path h) in omega arith)
+
+pub unused : (g : ℕ) (path : List ℕ) → next_new path ≤ g → holds g path ≡ false
+unused g [] h = refl
+unused g (x ∷ path) h =
+    let e : eqb g x ≡ false = ne_eqb g x (omega arith) in rw e (unused g path (omega arith))
+
+below-or-not : (g n : ℕ) → (g < n) ⊎ (n ≤ g)
+below-or-not g n = grind arith
+
+-- all groups of a path, and the numbers that none has
+pub groups-all : (groups : List Seen) (path : List ℕ) (ranked : List Order) (i : ℕ) →
+    GroupsTo groups path ranked i → length path ≤ i → i ≤ MAX_ORDERS → AreGroups groups path ranked
+groups-all groups path ranked i it l b = record {
+  count = it.count;
+  seen = λ g. elim (below-or-not g (next_new path)) [
+    | inl h ↦ subst (λ p. IsSeen (get_or groups g nothing_seen) (slab g p ranked))
+        (take_all i path l) (it.seen g h)
+    | inr h ↦ rw (
+      get_or_past groups g nothing_seen (rw it.count h),
+      slab-unused g path ranked (unused g path h),
+    ) seen-none
+  ];
+  light = λ g. elim (below-or-not g (next_new path)) [
+    | inl h ↦ (let a : (get_or groups g nothing_seen).load ≤ i * 1000000 =
+        it.light g h in omega arith)
+    | inr h ↦ (let z : 0 ≤ MAX_ORDERS * 1000000 = omega arith in
+        rw (get_or_past groups g nothing_seen (rw it.count h)) z)
+  ];
+}
+
+-- the slab of one more number
+pub slab-next : (g : ℕ) (path : List ℕ) (ranked : List Order) (d : Order) →
+    length path < length ranked → slab g (path ++ g ∷ []) ranked ≡ slab g path ranked
+    ++ get_or ranked (length path) d ∷ []
+slab-next g [] [] d h = absurd (omega arith)
+slab-next g [] (o ∷ ranked) d h = let e : eqb g g ≡ true = eq-eqb g g refl in rw e refl
+slab-next g (x ∷ path) [] d h = absurd (omega arith)
+slab-next g (x ∷ path) (o ∷ ranked) d h =
+    step (eqb g x) (slab g (path ++ g ∷ []) ranked) (slab g path ranked)
+    (get_or ranked (length path) d ∷ []) (slab-next g path ranked d (omega arith))
+  where
+    step : (b : Bool) (x y z : List Order) → x ≡ y ++ z → cond b (o ∷ x) x ≡ cond b (o ∷ y) y ++ z
+    step true x y z e = ap (λ l. o ∷ l) e
+    step false x y z e = e

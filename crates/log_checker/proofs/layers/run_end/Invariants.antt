@@ -1,7 +1,0 @@
-use Rattle.std.proofs.Common.{◌≡◌, ℕ, ◌<◌, ◌≤◌}
-use Rattle.log_checker.specs.Tables.{item_at}
-use Rattle.log_checker.proofs.layers.run_end.Given as goal
-
-abbrev pub invariant-loop-t : goal.invariant-loop-t
-invariant-loop-t l =
-    (s : ℕ) → l.at ≤ s → s < l.t → (item_at l.items s).colour ≡ (item_at l.items l.at).colour

@@ -1,0 +1,10 @@
+use Rattle.std.proofs.Common.{◌≡◌, ◌<◌}
+use Rattle.pair_split.specs.States.{IsWithin, row}
+use Rattle.pair_split.specs.Tables.{Marked, mill_in}
+use Rattle.pair_split.specs.declared.state.State.{State}
+use Rattle.pair_split.proofs.loads.state_with.Given as goal
+
+abbrev pub invariant-loop-r : goal.invariant-loop-r
+invariant-loop-r l =
+    (s : State) → row s < l.r → IsWithin (mill_in l.layout) s → Marked l.layout.words l.table s →
+    s.load ≡ l.load → ⊥

@@ -1,0 +1,5 @@
+pub mod Words
+pub mod Splits
+pub mod States
+pub mod Tables
+pub mod Loads

@@ -1,0 +1,23 @@
+//! What the program tells: a refusal of its input, an answer to an instance, or a judgement on an
+//! answer; of each the text and the status.
+#![tactic(auto)]
+
+mod judgement;
+mod laws;
+mod line;
+mod outcome;
+mod refusal;
+mod reply;
+mod status;
+mod stop;
+
+pub use judgement::Judgement;
+pub use laws::status_numbers;
+pub use outcome::Outcome;
+pub use refusal::Refusal;
+pub use reply::Reply;
+pub use status::{
+    ACCEPTED, FEASIBLE, INFEASIBLE, OPTIMAL, OUT_OF_MEMORY, READ_FAULT, REFUSED, REJECTED,
+    WRITE_FAULT, WRONG_WORDS,
+};
+pub use stop::Stop;

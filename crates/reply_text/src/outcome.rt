@@ -1,0 +1,68 @@
+ghost use Rattle.std.specs.Prelude.{◌≡◌, IfOk};
+ghost use Rattle.reply_text.specs.Outcome.{status_of, text_of, IsToTell};
+
+use crate::{
+    ACCEPTED, FEASIBLE, INFEASIBLE, Judgement, OPTIMAL, REFUSED, REJECTED, Refusal, Reply,
+};
+use answer_text::{Answer, print_answer};
+use mill_model::OutOfMemory;
+use std::alloc::Global;
+
+/// What a job is answered.
+#[derive(Debug, Drop)]
+pub enum Outcome {
+    /// The input is refused.
+    Refused(Refusal),
+    /// A plan that loses least, or one that a bounded search gives, or that there is no legal plan.
+    Solved(Answer),
+    /// What is said of the answer that was given.
+    Judged(Judgement),
+}
+
+impl Outcome {
+    // The status that the program ends with.
+    fn status(&self) -> u8
+        ensures { result ≡ status_of self.now }
+    {
+        match self {
+            Outcome::Refused(_) => REFUSED,
+            Outcome::Solved(Answer::Optimal { .. }) => OPTIMAL,
+            Outcome::Solved(Answer::Infeasible { .. }) => INFEASIBLE,
+            Outcome::Solved(Answer::Feasible { .. }) => FEASIBLE,
+            Outcome::Judged(judgement) if judgement.is_accepted() => ACCEPTED,
+            Outcome::Judged(_) => REJECTED,
+        }
+    }
+
+    // What the program writes.
+    fn text(&self, alloc: Global) -> Result<Vec<u8>, OutOfMemory>
+        requires { IsToTell self.now }
+        ensures { IfOk result (λ text. text.items ≡ text_of self.now) }
+    {
+        match self {
+            Outcome::Refused(why) => {
+                let mut text = Vec::new(alloc);
+                why.push_words(&mut text)?;
+                text.push(b'\n')?;
+                Ok(text)
+            }
+            Outcome::Solved(answer) => print_answer(alloc, answer),
+            Outcome::Judged(judgement) => {
+                let mut text = Vec::new(alloc);
+                judgement.push_words(&mut text)?;
+                text.push(b'\n')?;
+                Ok(text)
+            }
+        }
+    }
+
+    /// Makes the outcome ready to be written: nothing that comes after takes memory.
+    pub fn reply(&self, alloc: Global) -> Result<Reply, OutOfMemory>
+        requires { IsToTell self.now }
+        ensures status { IfOk result (λ reply. reply.status ≡ status_of self.now) }
+        ensures text { IfOk result (λ reply. reply.text ≡ text_of self.now) }
+    {
+        let text = self.text(alloc)?;
+        Ok(Reply::new(self.status(), text))
+    }
+}

@@ -1,0 +1,3 @@
+pub mod BestKeeps
+pub mod MeterKeeps
+pub mod Views

@@ -1,0 +1,143 @@
+-- Outputs that are right for words and bytes: what was served is right, and it agrees with each
+-- other output that is.
+use Rattle.std.specs.Prelude.{Option, Some, None, IfSome, IsSome, replicate}
+use Rattle.std.specs.Io.KnownBytes.{Consumes, IsAtEnd}
+use Rattle.std.proofs.KnownBytes.{Consumes-whole}
+use Rattle.std.proofs.Common.{◌≡◌, ◌≢◌, ℕ, suc, ◌≤◌, List, length, refl, sym, ◌∙◌, subst, arith}
+use Rattle.std.proofs.Common.{inl, inr}
+use Rattle.std.proofs.lemmas.List.{length-replicate}
+use Rattle.mill_io.specs.Bytes.{HasMoreThan}
+use Rattle.mill_model.specs.Instance.{Problem}
+use Rattle.mill_model.specs.Size.{enough}
+use Rattle.instance_text.specs.Text.{IsInstanceText}
+use Rattle.job_words.specs.declared.job.Job.{Job}
+use Rattle.job_words.specs.Words.{AskFor, limit_of}
+use Rattle.reply_text.specs.declared.outcome.Outcome.{Outcome}
+use Rattle.reply_text.specs.declared.outcome.Outcome.TheVariants.{Refused}
+use Rattle.reply_text.specs.declared.refusal.Refusal.TheVariants.{TooLong}
+use Rattle.reply_text.specs.declared.status.TheConstants.{FEASIBLE, WRITE_FAULT}
+use Rattle.reply_text.specs.Outcome.{status_of}
+use Rattle.slab_top.specs.Input.{whole_input}
+use Rattle.slab_top.specs.Served.{Serves, IsAnswer, IsServed, Output, WrongWords, Answered, IsRight}
+use Rattle.slab_top.specs.Agree.{AgreeOnOutcomes, Agree}
+use Rattle.slab_top.specs.Run.{HasEnough, IsToBeRead}
+use Rattle.slab_top.proofs.Stages.{whole-decided}
+use Rattle.slab_top.proofs.Replying.{replies-agree, replies-otherwise}
+use Rattle.slab_top.proofs.EachCommand.{each-is-command}
+
+-- ---- one input
+
+answers-agree : (job : Job) (input : List ℕ) (a b : Outcome) → IsAnswer job input a →
+    IsAnswer job input b → AgreeOnOutcomes a b
+answers-agree job input =
+    replies-agree (whole_input job input) (Serves job.command job) (whole-decided job input)
+    (λ bytes reads. (each-is-command job.command).agree job bytes)
+
+not-feasible : (job : Job) (input : List ℕ) (problem : Problem) (a : Outcome) →
+    problem.p ≡ job.p → IsInstanceText input problem →
+    enough (length problem.orders) ≤ job.limits.nodes → IsAnswer job input a →
+    status_of a ≢ FEASIBLE
+not-feasible job input problem a colours text budget =
+    replies-otherwise (whole_input job input) (Serves job.command job) a
+    (λ bytes reads. (each-is-command job.command).with_enough job bytes problem a colours
+    (subst (λ given. IsInstanceText given problem) (sym reads.0) text) budget)
+
+-- ---- the bytes to come
+
+-- all that was read to the end is what was given
+pub served-whole : (job : Job) (left new : Option (List ℕ)) (input : List ℕ) (outcome : Outcome) →
+    Consumes left new input → IsAtEnd new → length input ≤ limit_of job.command →
+    Serves job.command job input outcome → IsServed job left outcome
+served-whole job left new input outcome read end within serves = record {
+  input = input;
+  given = Consumes-whole left new input (λ told. told ≡ input) read end refl;
+  answer = inr (input, (refl, within), serves);
+}
+
+-- more was given than the limit
+pub served-long : (job : Job) (left : Option (List ℕ)) → HasMoreThan (limit_of job.command) left →
+    IsServed job left (Refused (TooLong (limit_of job.command)))
+served-long job None more =
+    let n = suc (limit_of job.command) in
+    let count = length-replicate {A = ℕ} n 0 in
+    record {
+      input = replicate n 0;
+      given = tt;
+      answer = inl (TooLong (limit_of job.command), refl, (refl, omega arith));
+    }
+served-long job (Some told) more = record {
+  input = told;
+  given = refl;
+  answer = inl (TooLong (limit_of job.command), refl, (refl, more));
+}
+
+-- two outcomes for the same told bytes
+served-agree : (job : Job) (left : Option (List ℕ)) (own other : Outcome) → IsSome left →
+    IsServed job left own → IsServed job left other → AgreeOnOutcomes own other
+served-agree job None own other told served right = absurd (cc)
+served-agree job (Some input) own other told served right =
+    answers-agree job input own other
+    (subst (λ bytes. IsAnswer job bytes own) (sym served.given) served.answer)
+    (subst (λ bytes. IsAnswer job bytes other) (sym right.given) right.answer)
+
+-- ---- the words
+
+-- They ask for one job.
+module _ (words : List (List ℕ)) (job : Job) (left : Option (List ℕ))
+    (only : (other : Job) → AskFor words other → other ≡ job) where
+  -- the output agrees with each other that is right,
+  pub right-agree : (own : Outcome) (output : Output) → AskFor words job → IsSome left →
+      IsServed job left own → IsRight words left output → Agree (Answered own) output
+  right-agree own WrongWords asked told served right = absurd (right job asked)
+  right-agree own (Answered other) asked told served right =
+      served-agree job left own other told served
+      (subst (λ j. IsServed j left other) (only right.0 right.1) right.2)
+
+  -- it isn't feasible where the budget is enough,
+  pub enough-served : (own : Outcome) (status : ℕ) → IsServed job left own →
+      (status ≢ WRITE_FAULT → status ≡ status_of own) →
+      IfSome left (λ input. HasEnough words input → status ≢ FEASIBLE)
+  enough-served = by_left left
+    where
+      by_left : (left : Option (List ℕ)) (own : Outcome) (status : ℕ) → IsServed job left own →
+          (status ≢ WRITE_FAULT → status ≡ status_of own) →
+          IfSome left (λ input. HasEnough words input → status ≢ FEASIBLE)
+      by_left None own status served is = tt
+      by_left (Some input) own status served is = λ has e.
+          let same = only has.job has.asked in
+          not-feasible job served.input has.problem own
+          (subst (λ (j : Job). has.problem.p ≡ j.p) same has.colours)
+          (subst (λ bytes. IsInstanceText bytes has.problem) served.given has.text)
+          (subst (λ (j : Job). enough (length has.problem.orders) ≤ j.limits.nodes) same
+          has.budget)
+          served.answer
+          (sym (is (λ failed. omega (arith, e, failed))) ∙ e)
+
+  -- and what was read for it was read for the words
+  pub ended-for : (Ended : Type 0) →
+      IfSome left (λ input. length input ≤ limit_of job.command → Ended) →
+      IfSome left (λ input. IsToBeRead words input → Ended)
+  ended-for = by_left left
+    where
+      by_left : (left : Option (List ℕ)) (Ended : Type 0) →
+          IfSome left (λ input. length input ≤ limit_of job.command → Ended) →
+          IfSome left (λ input. IsToBeRead words input → Ended)
+      by_left None Ended ended = tt
+      by_left (Some input) Ended ended =
+          λ read. ended (subst (λ (j : Job). length input ≤ limit_of j.command)
+          (only read.job read.asked) read.within)
+
+-- They ask for none.
+module _ (words : List (List ℕ)) (left : Option (List ℕ))
+    (none : (job : Job) → AskFor words job → ⊥) where
+  pub wrong-agree : (output : Output) → IsRight words left output → Agree WrongWords output
+  wrong-agree WrongWords right = refl
+  wrong-agree (Answered other) right = absurd (none right.0 right.1)
+
+  pub unread-for : (Ended : Type 0) → IfSome left (λ input. IsToBeRead words input → Ended)
+  unread-for = by_left left
+    where
+      by_left : (left : Option (List ℕ)) (Ended : Type 0) →
+          IfSome left (λ input. IsToBeRead words input → Ended)
+      by_left None Ended = tt
+      by_left (Some input) Ended = λ read. absurd (none read.job read.asked)

@@ -1,0 +1,13 @@
+-- `solve`: it reads an instance that stands alone, and answers it.
+use Rattle.std.specs.Prelude.{ℕ, List}
+use Rattle.job_words.specs.declared.job.Job.{Job}
+use Rattle.reply_text.specs.declared.outcome.Outcome.{Outcome}
+use Rattle.reply_text.specs.declared.outcome.Outcome.TheVariants.{Solved}
+use Rattle.solve_answer.specs.Solved.{IsSolved}
+use Rattle.slab_top.specs.Input.{instance_alone}
+use Rattle.slab_top.specs.Reply.{Replies, Tells}
+
+abbrev pub Solves : Job → List ℕ → Outcome → Type 0
+Solves job bytes =
+    Replies (instance_alone job.p bytes)
+    (λ problem. Tells Solved (IsSolved job.limits.nodes problem))

@@ -1,0 +1,31 @@
+//! The commands, each in a file of its own with one shape of contract: from a job and an input to
+//! what it answers.
+
+ghost use Rattle.job_words.specs.Words.{IsInRange};
+ghost use Rattle.std.specs.Prelude.{IfOk};
+ghost use Rattle.reply_text.specs.Outcome.{IsToTell};
+ghost use Rattle.slab_top.specs.Reply.{IsReply};
+ghost use Rattle.slab_top.specs.Served.{Serves};
+
+mod check;
+mod prove;
+mod solve;
+mod verify;
+
+use job_words::{Command, Job};
+use reply_text::{Outcome, Stop};
+use std::alloc::Global;
+
+/// What a job answers to an input within its limit.
+pub fn serve(alloc: Global, job: Job, input: &[u8]) -> Result<Outcome, Stop>
+    requires in_range { IsInRange job }
+    ensures reply { IsReply (Serves job.command job input.now) result }
+    ensures told { IfOk result IsToTell }
+{
+    match job.command {
+        Command::Solve => solve::serve(alloc, job, input),
+        Command::Prove => prove::serve(alloc, job, input),
+        Command::Check => check::serve(alloc, job, input),
+        Command::Verify => verify::serve(alloc, job, input),
+    }
+}

@@ -1,0 +1,10 @@
+//! Tests of the whole program that need its inside: sources and sinks that fail, and grids of small
+//! instances against a plain reading. Rows of words, input, output and status stand in rows/.
+#![tactic(auto)]
+
+#[cfg(test)]
+mod faults;
+#[cfg(test)]
+mod grid;
+#[cfg(test)]
+mod least;

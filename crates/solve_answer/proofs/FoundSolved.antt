@@ -1,0 +1,141 @@
+-- What a search of the tree has found is what is answered. A search goes by a table of charges; as
+-- the table is the charge of the definition, all is said here of that charge.
+use Rattle.std.proofs.Common.{◌≡◌, ℕ, ◌<◌, ◌≤◌, List, [], ◌∷◌, length, refl, sym, ◌∙◌}
+use Rattle.std.proofs.Common.{arith}
+use Rattle.std.specs.Prelude.{Option, IfSome}
+use Rattle.std.proofs.lemmas.Option.{slice_get_within}
+use Rattle.list_laws.specs.Sets.{below}
+use Rattle.mill_model.specs.Instance.{Problem, IsInstance, largest, mill_of, loss_charge}
+use Rattle.mill_model.specs.Plan.{NoneLosesLess}
+use Rattle.mill_model.specs.Best.{IsStartOf, IsTidyPlan, loss_alone}
+use Rattle.mill_model.specs.Size.{enough}
+use Rattle.mill_model.specs.Tree.{canonical}
+use Rattle.mill_model.specs.declared.plan.Start.{Start}
+use Rattle.mill_laws.specs.PlanLaws.{EachFits}
+use Rattle.mill_laws.proofs.PlanLaws.{canonical-form-is-legal, canonical-form-is-its-own}
+use Rattle.mill_laws.proofs.PlanLaws.{canonical-form-loses-the-same, each-alone-is-legal}
+use Rattle.mill_model.specs.Best.{IsStartOf}
+use Rattle.refute_log.specs.Logged.{Logged, IsLog}
+use Rattle.answer_text.specs.Text.{Fits, refutation_of, most_orders}
+use Rattle.answer_text.specs.declared.answer.Answer.{Answer}
+use Rattle.answer_text.specs.declared.answer.Answer.TheVariants.{Infeasible}
+use Rattle.answer_text.proofs.Printed.{may-print, read-back}
+use Rattle.mill_model.specs.Heavy.{NoneHeavy, IsFirstHeavy}
+use Rattle.solve_answer.specs.Search.{answer_from}
+use Rattle.solve_answer.specs.Solved.{IsSolution, IsTold, WhereOptimal}
+use Rattle.solve_answer.proofs.AloneLoses.{alone-loses}
+use Rattle.solve_answer.proofs.LossLimit.{optimal-fits, feasible-fits}
+
+module _ (problem : Problem) where
+  -- a legal plan with its loss by a charge
+  abbrev pub IsFoundPlan : (ℕ → ℕ) → Start → Type 0
+  IsFoundPlan charge start =
+      IsStartOf problem charge start
+
+  -- what a search by a charge has found, of which some paths wait
+  pub record HasFound (charge : ℕ → ℕ) (nodes : ℕ) (best : Start) (waiting : List (List ℕ))
+      (closed : ℕ) : Type 0 where
+    pub plan : IsFoundPlan charge best
+    pub no_worse :
+        best.loss ≤ loss_alone (mill_of problem) (loss_charge problem.sizes) problem.orders
+    pub least : waiting ≡ [] → NoneLosesLess (mill_of problem) charge problem.orders best.loss
+    pub few : closed ≤ 1000000000
+    pub spent : 0 < length waiting → closed ≡ nodes
+    pub larger : 0 < length waiting → nodes < enough (length problem.orders)
+
+  -- the plan that gives each order a slab of its own may begin a search
+  pub alone-starts : (start : Start) → EachFits (mill_of problem) problem.orders →
+      start.plan ≡ below (length problem.orders) →
+      start.loss ≡ loss_alone (mill_of problem) (loss_charge problem.sizes) problem.orders →
+      IsFoundPlan (loss_charge problem.sizes) start
+  alone-starts start fits plan lost = record {
+    legal = rw plan (each-alone-is-legal (mill_of problem) problem.orders fits);
+    loses = rw plan (alone-loses (loss_charge problem.sizes) problem.orders) ∙ sym lost;
+  }
+
+  -- a plan that was found is told in canonical form
+  found-tidy : (best : Start) → IsFoundPlan (loss_charge problem.sizes) best →
+      IsTidyPlan (mill_of problem) (loss_charge problem.sizes) problem.orders
+      (record { plan = canonical best.plan; loss = best.loss })
+  found-tidy best found = record {
+    found = record {
+      legal = canonical-form-is-legal (mill_of problem) problem.orders best.plan found.legal;
+      loses = canonical-form-loses-the-same (mill_of problem) (loss_charge problem.sizes)
+          problem.orders best.plan refl found.legal ∙ found.loses;
+    };
+    tidy = canonical-form-is-its-own best.plan;
+  }
+
+  -- What a search of an instance that has no heavy order has found.
+  module _ (instance : IsInstance problem)
+      (light : NoneHeavy (largest problem.sizes) problem.orders) (nodes : ℕ) (best : Start)
+      (log : Option Logged) where
+    abbrev Has : List (List ℕ) → ℕ → Type 0
+    Has = HasFound (loss_charge problem.sizes) nodes best
+
+    -- it is right,
+    found-solution : (waiting : List (List ℕ)) (closed : ℕ) → Has waiting closed →
+        IsSolution nodes problem (answer_from best waiting closed log)
+    found-solution [] closed found =
+        (light, record { found = found-tidy best found.plan; least = found.least refl })
+    found-solution (path ∷ paths) closed found = (
+      light,
+      record {
+        found = found-tidy best found.plan;
+        no_worse = found.no_worse;
+        whole_budget = found.spent (omega arith);
+        small_budget = found.larger (omega arith);
+      },
+    )
+
+    -- its numbers are within the limits of its text,
+    found-fits : (waiting : List (List ℕ)) (closed : ℕ) → Has waiting closed →
+        IfSome log (λ log. log.orders ≡ length problem.orders) →
+        Fits (length problem.orders) (answer_from best waiting closed log)
+    found-fits [] closed found orders =
+        optimal-fits problem (canonical best.plan) best.loss log instance
+        (found-tidy best found.plan) orders
+    found-fits (path ∷ paths) closed found orders =
+        feasible-fits problem (canonical best.plan) best.loss closed instance
+        (found-tidy best found.plan) found.few
+
+    found-log-is : (waiting : List (List ℕ)) (closed : ℕ) → IfSome log IsLog →
+        IfSome (refutation_of (answer_from best waiting closed log)) IsLog
+    found-log-is [] closed is = is
+    found-log-is (path ∷ paths) closed is = tt
+
+    -- and its text reads back.
+    pub found-told : (waiting : List (List ℕ)) (closed : ℕ) → Has waiting closed →
+        IfSome log (λ log. log.orders ≡ length problem.orders) → IfSome log IsLog →
+        IsTold nodes problem (answer_from best waiting closed log)
+    found-told waiting closed found orders is = record {
+      solution = found-solution waiting closed found;
+      reads_back = read-back (length problem.orders) (answer_from best waiting closed log) _ refl
+          (found-log-is waiting closed is) instance.within.few_orders
+          (found-fits waiting closed found orders);
+    }
+
+-- Of its log, a fact is to hold where no path waits.
+pub found-where : (Is : ℕ → Option Logged → Type 0) (best : Start) (waiting : List (List ℕ))
+    (closed : ℕ) (log : Option Logged) → (waiting ≡ [] → Is best.loss log) →
+    WhereOptimal Is (answer_from best waiting closed log)
+found-where Is best [] closed log is = is refl
+found-where Is best (path ∷ paths) closed log is = tt
+
+-- An answer without a plan names the first order that is too heavy.
+pub infeasible-told : (nodes : ℕ) (problem : Problem) (place : ℕ) → IsInstance problem →
+    IsFirstHeavy problem place → IsTold nodes problem (Infeasible place)
+infeasible-told nodes problem place instance first =
+    let inside = slice_get_within problem.orders place first.order first.here in
+    record {
+      solution = first;
+      reads_back = read-back (length problem.orders) (Infeasible place) _ refl tt
+          instance.within.few_orders
+          (record { numbers = (tt, (inside, tt)); refutation = tt });
+    }
+
+-- what is told can be printed
+pub told-fits : (nodes : ℕ) (problem : Problem) (answer : Answer) → IsInstance problem →
+    IsTold nodes problem answer → Fits (most_orders answer) answer
+told-fits nodes problem answer instance told =
+    may-print (length problem.orders) answer instance.within.few_orders told.reads_back.fits

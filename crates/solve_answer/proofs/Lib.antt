@@ -1,0 +1,4 @@
+pub mod SolutionsAgree
+mod AloneLoses
+mod LossLimit
+mod FoundSolved

@@ -1,0 +1,8 @@
+//! From an instance to an answer: a best plan, the best that a bounded search has found, or the
+//! first order that no slab holds.
+#![tactic(auto)]
+
+mod search;
+mod start;
+
+pub use search::{prove, solve};

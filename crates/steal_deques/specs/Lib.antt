@@ -1,0 +1,3 @@
+pub mod Deque
+pub mod Rule
+pub mod Views

@@ -35,7 +35,7 @@ use Rattle.log_checker.specs.declared.keys.LiveGroup.{LiveGroup}
 use Rattle.log_checker.proofs.KeysDecide.{low-from}
 use Rattle.log_checker.proofs.LegalGroups.{live-fits, seen-once}
 use Rattle.log_checker.proofs.LiveGroups.{lives-is}
-use Rattle.log_checker.proofs.Sorted.{times-moved}
+use Rattle.list_laws.proofs.InOrder.{times-moved}
 
 -- the groups of the live ones in order
 among-sorted : (mill : Mill) (rest : List Order) (groups : List Seen) (sorted : List LiveGroup)

@@ -1,5 +1,5 @@
--- The best plans of some orders, for any charge of loads, and those that a search has found when its
--- budget is spent.
+-- The best plans of some orders, for any charge of loads, and those that a search has found when
+-- its budget is spent.
 use Rattle.std.specs.Prelude.{ℕ, ◌≡◌, ◌<◌, ◌≤◌, List, length, sum_by}
 use Rattle.mill_model.specs.Slab.{Mill}
 use Rattle.mill_model.specs.Instance.{Problem, mill_of}

@@ -21,6 +21,7 @@ use Rattle.answer_text.specs.declared.answer.Answer.{Answer}
 use Rattle.answer_text.specs.declared.answer.Answer.TheVariants.{Infeasible}
 use Rattle.answer_text.proofs.Printed.{may-print, read-back}
 use Rattle.mill_model.specs.Heavy.{NoneHeavy, IsFirstHeavy}
+use Rattle.mill_model.specs.declared.limits.TheConstants.{MAX_NODES}
 use Rattle.solve_answer.specs.Search.{answer_from}
 use Rattle.solve_answer.specs.Solved.{IsSolution, IsTold, WhereOptimal}
 use Rattle.solve_answer.proofs.AloneLoses.{alone-loses}
@@ -39,7 +40,7 @@ module _ (problem : Problem) where
     pub no_worse :
         best.loss ≤ loss_alone (mill_of problem) (loss_charge problem.sizes) problem.orders
     pub least : waiting ≡ [] → NoneLosesLess (mill_of problem) charge problem.orders best.loss
-    pub few : closed ≤ 1000000000
+    pub few : closed ≤ MAX_NODES
     pub spent : 0 < length waiting → closed ≡ nodes
     pub larger : 0 < length waiting → nodes < enough (length problem.orders)
 

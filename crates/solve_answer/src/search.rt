@@ -2,6 +2,7 @@ ghost use Rattle.std.specs.Prelude.{◌≡◌, ◌<◌, ◌≤◌, All, length, 
 ghost use Rattle.answer_text.specs.Text.{Fits, most_orders};
 ghost use Rattle.solve_answer.specs.Search.{answer_from};
 ghost use Rattle.solve_answer.specs.Solved.{IsProved, IsSolved};
+ghost use Rattle.mill_model.specs.declared.limits.TheConstants.{MAX_NODES};
 
 use crate::start::beginning_of;
 use answer_text::Answer;
@@ -14,7 +15,7 @@ use tree_search::{Found, prove_tree, search_tree};
 /// The answer to an instance: a best plan, or what was found until `limits.nodes` paths of
 /// the tree were closed.
 pub fn solve(alloc: Global, instance: &Instance, limits: Limits) -> Result<Answer, OutOfMemory>
-    requires { limits.nodes ≤ 1000000000 }
+    requires { limits.nodes ≤ MAX_NODES }
     ensures is { IfOk result (IsSolved limits.nodes instance.now) }
     ensures told { IfOk result (λ answer. Fits (most_orders answer) answer) }
 {
@@ -37,7 +38,7 @@ pub fn solve(alloc: Global, instance: &Instance, limits: Limits) -> Result<Answe
 
 /// The same, and with a best plan a log that refutes each lesser loss.
 pub fn prove(alloc: Global, instance: &Instance, limits: Limits) -> Result<Answer, OutOfMemory>
-    requires { limits.nodes ≤ 1000000000 }
+    requires { limits.nodes ≤ MAX_NODES }
     ensures is { IfOk result (IsProved limits.nodes instance.now) }
     ensures told { IfOk result (λ answer. Fits (most_orders answer) answer) }
 {

@@ -32,7 +32,7 @@ first_least x xs n rise h = elim (first_or_later x xs n h) [
   | inr later ↦ (let above = later_above x xs n rise later in omega arith)
 ]
 
-rise_later : (x : ℕ) (xs : List ℕ) → IsStrictlyIncreasing (x ∷ xs) → IsStrictlyIncreasing xs
+pub rise_later : (x : ℕ) (xs : List ℕ) → IsStrictlyIncreasing (x ∷ xs) → IsStrictlyIncreasing xs
 rise_later x xs rise k within =
     let e : suc k + 1 ≡ suc (k + 1) = omega arith in
     rw e at (rise (suc k) (omega arith))
@@ -50,8 +50,8 @@ part_later x y xs ys same rise part n h =
       | inr later ↦ later
     ]
 
-same_rising : (xs ys : List ℕ) → IsStrictlyIncreasing xs → IsStrictlyIncreasing ys → IsPart xs ys →
-    IsPart ys xs → xs ≡ ys
+pub same_rising : (xs ys : List ℕ) → IsStrictlyIncreasing xs → IsStrictlyIncreasing ys →
+    IsPart xs ys → IsPart ys xs → xs ≡ ys
 same_rising [] [] rise rise' to from = refl
 same_rising [] (y ∷ ys) rise rise' to from =
     let none = from y (first_in y ys) in absurd (omega (arith, none.1))

@@ -93,14 +93,6 @@ wanted-parent task log x path =
 
 -- No path twice.
 
--- where each path is recorded at most once, each is wanted at most once
-pub wanted-once : (task : Task) (log : List Entry) →
-    ((path : List ℕ) → times same_list path (recorded log) ≤ 1) → (path : List ℕ) →
-    times same_list path ([] ∷ split_children task log) ≤ 1
-wanted-once task log h [] = omega (arith, empty-times task log)
-wanted-once task log h (x ∷ path) =
-    omega (arith, wanted-parent task log x path, h (ends x path).0)
-
 pub conserved-once : (task : Task) (log : List Entry) (unclosed : List (List ℕ)) →
     SameTimes same_list (recorded log ++ unclosed) ([] ∷ split_children task log) →
     (n : ℕ) (path : List ℕ) → length path ≤ n → times same_list path (recorded log ++ unclosed) ≤ 1

@@ -1,15 +1,16 @@
--- Lists in one order that have each thing as often are one.
+-- Lists in one order that have each thing as often are one: the first of each stands in the other,
+-- and comes before none there, so the two tie, and what ties is the same.
 use Rattle.std.proofs.Common.{ℕ, suc, ◌+◌, ◌<◌, ◌≤◌, ◌≡◌, ◌⊎◌, Bool, true, false, cond, List, []}
 use Rattle.std.proofs.Common.{◌∷◌, length, get_or, refl, sym, ap, ap₂, ◌∙◌, subst, arith, inl, inr}
 use Rattle.std.specs.List.{sum_by}
-use Rattle.std.specs.List.Sorted.{IsPermutation}
-use Rattle.std.proofs.lemmas.List.Sorted.{sum_by-IsPermutation}
+use Rattle.std.specs.Cmp.{IsStrictWeakOrder}
+use Rattle.std.specs.List.Sorted.{IsPermutation, IsSortedBy}
+use Rattle.std.proofs.lemmas.List.Sorted.{sorted_far, sum_by-IsPermutation}
 use Rattle.std.proofs.lemmas.List.Sums.{sum_by-cons}
 use Rattle.list_laws.specs.Sets.{times}
-use Rattle.list_laws.proofs.Tests.{either}
 use Rattle.list_laws.proofs.Among.{Among}
+use Rattle.list_laws.proofs.Times.{times-among}
 
--- how often a thing stands in a list is kept by a permutation
 times-sum : {X : Type 0} (same : X → X → Bool) (o : X) (xs : List X) →
     times same o xs ≡ sum_by (λ x. cond (same o x) 1 0) xs
 times-sum same o [] = refl
@@ -17,6 +18,7 @@ times-sum same o (x ∷ xs) =
     let ih : times same o xs ≡ sum_by (λ x. cond (same o x) 1 0) xs = times-sum same o xs in
     rw sum_by-cons (ap (λ n. cond (same o x) 1 0 + n) ih)
 
+-- how often a thing stands in a list is kept by a permutation
 pub times-moved : {X : Type 0} (same : X → X → Bool) (o : X) (xs ys : List X) →
     IsPermutation xs ys → times same o ys ≡ times same o xs
 times-moved same o xs ys p =
@@ -31,14 +33,6 @@ InOrder {X} less (x ∷ xs) = ((y : X) → Among y xs → less y x ≡ false) ×
 module _ {X : Type 0} (less same : X → X → Bool) (is : (a b : X) → same a b ≡ true → a ≡ b)
     (self : (a : X) → same a a ≡ true)
     (tied : (a b : X) → less a b ≡ false → less b a ≡ false → a ≡ b) where
-  times-among : (o : X) (xs : List X) → 0 < times same o xs → Among o xs
-  times-among o [] h = absurd (omega arith)
-  times-among o (x ∷ xs) h = elim (either (same o x)) [
-    | inl s ↦ inl (is o x s)
-    | inr s ↦ (let k : 0 < 0 + times same o xs = rw s at h in
-        inr (times-among o xs (omega arith)))
-  ]
-
   first-times : (x : X) (xs : List X) → 0 < times same x (x ∷ xs)
   first-times x xs = rw (self x) (omega arith)
 
@@ -60,10 +54,10 @@ module _ {X : Type 0} (less same : X → X → Bool) (is : (a b : X) → same a 
       head : x ≡ y
       head =
           let i : (x ≡ y) ⊎ Among x ys =
-          times-among x (y ∷ ys) (let a : 0 < times same x (x ∷ xs) = first-times x xs in
+          times-among same is x (y ∷ ys) (let a : 0 < times same x (x ∷ xs) = first-times x xs in
           let b : times same x (x ∷ xs) ≡ times same x (y ∷ ys) = t x in omega arith) in
           let j : (y ≡ x) ⊎ Among y xs =
-          times-among y (x ∷ xs) (let a : 0 < times same y (y ∷ ys) = first-times y ys in
+          times-among same is y (x ∷ xs) (let a : 0 < times same y (y ∷ ys) = first-times y ys in
           let b : times same y (x ∷ xs) ≡ times same y (y ∷ ys) = t y in omega arith) in
           go i j
         where
@@ -100,3 +94,9 @@ in-order-from {X} less (x ∷ xs) h = (
     among-place y (x ∷ xs) (inl e) = (0, omega arith, λ d. sym e)
     among-place y (x ∷ xs) (inr m) =
         let r = among-place y xs m in (suc r.0, omega (arith, r.1), r.2)
+
+-- from a sorted list
+pub sorted-in-order : {X : Type 0} (less : X → X → Bool) → IsStrictWeakOrder less →
+    (xs : List X) → IsSortedBy less xs → InOrder less xs
+sorted-in-order less order xs up =
+    in-order-from less xs (λ i j d a b. sorted_far less order xs up i j d a b)

@@ -29,3 +29,5 @@ pub mod RecordedOnce
 pub mod Merged
 pub mod Thrift
 pub mod RunLaws
+-- starts
+pub mod StartBound

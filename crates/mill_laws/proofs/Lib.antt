@@ -26,3 +26,4 @@ pub mod LogLaws
 pub mod Thrift
 pub mod RunLaws
 pub mod Second
+pub mod StartBound

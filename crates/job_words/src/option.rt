@@ -77,7 +77,7 @@ pub const MOVES: Rule = Rule {
     least: 0,
     greatest: 1_000_000,
     default: 1000,
-    scope: Scope::Planned,
+    scope: Scope::Searching,
 };
 
 /// Where the numbers of a generated instance begin.

@@ -1,8 +1,8 @@
 -- Where there is a possible start, one of them loses most. Plans of n orders are lists of n numbers
 -- below n, so there are finitely many: by one number after the other, either none of them passes a
 -- test, or one that does has the greatest value.
-use Rattle.std.proofs.Common.{ℕ, zero, suc, ◌<◌, ◌≤◌, ◌-◌, ◌≡◌, ◌⊎◌, Bool, true, false, ◌&&◌, List, []}
-use Rattle.std.proofs.Common.{◌∷◌, length, eqb, ltb, leb, refl, inl, inr, arith, eqb-true, ltb-true}
+use Rattle.std.proofs.Common.{ℕ, zero, suc, ◌<◌, ◌≤◌, ◌-◌, ◌≡◌, ◌⊎◌, Bool, true, false, ◌&&◌}
+use Rattle.std.proofs.Common.{List, [], ◌∷◌, length, eqb, ltb, leb, refl, inl, inr, arith, eqb-true, ltb-true}
 use Rattle.std.proofs.Common.{leb-true, leb-false, eq-eqb, subst}
 use Rattle.std.proofs.lemmas.Bool.{lt-ltb, le-leb}
 use Rattle.std.specs.List.{list_all}
@@ -62,29 +62,29 @@ module _ (One Other Both : List ℕ → Type 0) (test : List ℕ → Bool) (valu
   )
   of-both (inr best) (inr more) = elim (either (leb (value best.0) (value more.0))) [
     | inl up ↦ inr (
-        more.0,
-        record {
-          kind = other more.0 more.1.kind;
-          passes = more.1.passes;
-          most = λ list kind passes. elim (split list kind) [
-            | inl k ↦ (let here = best.1.most list k passes in
-                let above = leb-true (value best.0) (value more.0) up in omega arith)
-            | inr k ↦ more.1.most list k passes
-          ];
-        },
-      )
+      more.0,
+      record {
+        kind = other more.0 more.1.kind;
+        passes = more.1.passes;
+        most = λ list kind passes. elim (split list kind) [
+          | inl k ↦ (let here = best.1.most list k passes in
+              let above = leb-true (value best.0) (value more.0) up in omega arith)
+          | inr k ↦ more.1.most list k passes
+        ];
+      },
+    )
     | inr down ↦ inr (
-        best.0,
-        record {
-          kind = one best.0 best.1.kind;
-          passes = best.1.passes;
-          most = λ list kind passes. elim (split list kind) [
-            | inl k ↦ best.1.most list k passes
-            | inr k ↦ (let here = more.1.most list k passes in
-                let above = leb-false (value best.0) (value more.0) down in omega arith)
-          ];
-        },
-      )
+      best.0,
+      record {
+        kind = one best.0 best.1.kind;
+        passes = best.1.passes;
+        most = λ list kind passes. elim (split list kind) [
+          | inl k ↦ best.1.most list k passes
+          | inr k ↦ (let here = more.1.most list k passes in
+              let above = leb-false (value best.0) (value more.0) down in omega arith)
+        ];
+      },
+    )
   ]
 
 -- m numbers below n
@@ -102,105 +102,107 @@ BeginsBelow n m k [] = ⊥
 BeginsBelow n m k (s ∷ rest) = (s < k) × AreBelow n m rest
 
 module _ (n m : ℕ) (test : List ℕ → Bool) (value : List ℕ → ℕ)
-    (rest : (g : ℕ) → HasGreatest (AreBelow n m) (λ list. test (g ∷ list)) (λ list. value (g ∷ list)))
-    where
-  with-first : (g : ℕ) → HasGreatest (BeginsWith n m g) test value
-  with-first g = from (rest g)
-    where
-      none-passes : ((list : List ℕ) → AreBelow n m list → test (g ∷ list) ≡ false) →
-          (list : List ℕ) → BeginsWith n m g list → test list ≡ false
-      none-passes none [] kind = absurd kind
-      none-passes none (s ∷ list) kind = rw (kind.0) (none list kind.1)
+    (rest : (g : ℕ) → HasGreatest (AreBelow n m) (λ list. test (g ∷ list))
+    (λ list. value (g ∷ list)))
+  where
+    with-first : (g : ℕ) → HasGreatest (BeginsWith n m g) test value
+    with-first g = from (rest g)
+      where
+        none-passes : ((list : List ℕ) → AreBelow n m list → test (g ∷ list) ≡ false) →
+            (list : List ℕ) → BeginsWith n m g list → test list ≡ false
+        none-passes none [] kind = absurd kind
+        none-passes none (s ∷ list) kind = rw (kind.0) (none list kind.1)
 
-      most-value : (best : ℕ) → ((list : List ℕ) → AreBelow n m list → test (g ∷ list) ≡ true →
-          value (g ∷ list) ≤ best) →
-          (list : List ℕ) → BeginsWith n m g list → test list ≡ true → value list ≤ best
-      most-value best most [] kind passes = absurd kind
-      most-value best most (s ∷ list) kind passes =
-          let there : test (g ∷ list) ≡ true = subst (λ h. test (h ∷ list) ≡ true) kind.0 passes in
-          rw (kind.0) (most list kind.1 there)
+        most-value : (best : ℕ) → ((list : List ℕ) → AreBelow n m list → test (g ∷ list) ≡ true →
+            value (g ∷ list) ≤ best) →
+            (list : List ℕ) → BeginsWith n m g list → test list ≡ true → value list ≤ best
+        most-value best most [] kind passes = absurd kind
+        most-value best most (s ∷ list) kind passes =
+            let there : test (g ∷ list) ≡ true =
+            subst (λ h. test (h ∷ list) ≡ true) kind.0 passes in
+            rw (kind.0) (most list kind.1 there)
 
-      from : HasGreatest (AreBelow n m) (λ list. test (g ∷ list)) (λ list. value (g ∷ list)) →
-          HasGreatest (BeginsWith n m g) test value
-      from (inl none) = inl (none-passes none)
-      from (inr best) = inr (
-        g ∷ best.0,
-        record {
-          kind = (refl, best.1.kind);
-          passes = best.1.passes;
-          most = most-value (value (g ∷ best.0)) best.1.most;
-        },
-      )
+        from : HasGreatest (AreBelow n m) (λ list. test (g ∷ list)) (λ list. value (g ∷ list)) →
+            HasGreatest (BeginsWith n m g) test value
+        from (inl none) = inl (none-passes none)
+        from (inr best) = inr (
+          g ∷ best.0,
+          record {
+            kind = (refl, best.1.kind);
+            passes = best.1.passes;
+            most = most-value (value (g ∷ best.0)) best.1.most;
+          },
+        )
 
-  none-begins : (list : List ℕ) → BeginsBelow n m 0 list → test list ≡ false
-  none-begins [] kind = absurd kind
-  none-begins (s ∷ list) kind = (let less = kind.0 in absurd (omega arith))
+    none-begins : (list : List ℕ) → BeginsBelow n m 0 list → test list ≡ false
+    none-begins [] kind = absurd kind
+    none-begins (s ∷ list) kind = (let less = kind.0 in absurd (omega arith))
 
-  lower : (k : ℕ) (list : List ℕ) → BeginsBelow n m k list → BeginsBelow n m (suc k) list
-  lower k [] kind = kind
-  lower k (s ∷ list) kind = (let less = kind.0 in (omega arith, kind.1))
+    lower : (k : ℕ) (list : List ℕ) → BeginsBelow n m k list → BeginsBelow n m (suc k) list
+    lower k [] kind = kind
+    lower k (s ∷ list) kind = (let less = kind.0 in (omega arith, kind.1))
 
-  last : (k : ℕ) (list : List ℕ) → BeginsWith n m k list → BeginsBelow n m (suc k) list
-  last k [] kind = kind
-  last k (s ∷ list) kind = (let is = kind.0 in (omega arith, kind.1))
+    last : (k : ℕ) (list : List ℕ) → BeginsWith n m k list → BeginsBelow n m (suc k) list
+    last k [] kind = kind
+    last k (s ∷ list) kind = (let is = kind.0 in (omega arith, kind.1))
 
-  last-or-lower : (k : ℕ) (list : List ℕ) → BeginsBelow n m (suc k) list →
-      BeginsWith n m k list ⊎ BeginsBelow n m k list
-  last-or-lower k [] kind = absurd kind
-  last-or-lower k (s ∷ list) kind = elim (last-or-below s k kind.0) [
-    | inl is ↦ inl (is, kind.1)
-    | inr less ↦ inr (less, kind.1)
-  ]
+    last-or-lower : (k : ℕ) (list : List ℕ) → BeginsBelow n m (suc k) list →
+        BeginsWith n m k list ⊎ BeginsBelow n m k list
+    last-or-lower k [] kind = absurd kind
+    last-or-lower k (s ∷ list) kind = elim (last-or-below s k kind.0) [
+      | inl is ↦ inl (is, kind.1)
+      | inr less ↦ inr (less, kind.1)
+    ]
 
-  with-lower : (k : ℕ) → HasGreatest (BeginsBelow n m k) test value
-  with-lower zero = inl none-begins
-  with-lower (suc k) =
-      of-both (BeginsWith n m k) (BeginsBelow n m k) (BeginsBelow n m (suc k)) test value (last k)
-      (lower k) (last-or-lower k) (with-first k) (with-lower k)
+    with-lower : (k : ℕ) → HasGreatest (BeginsBelow n m k) test value
+    with-lower zero = inl none-begins
+    with-lower (suc k) =
+        of-both (BeginsWith n m k) (BeginsBelow n m k) (BeginsBelow n m (suc k)) test value (last k)
+        (lower k) (last-or-lower k) (with-first k) (with-lower k)
 
-  begins : (list : List ℕ) → AreBelow n (suc m) list → BeginsBelow n m n list
-  begins [] are = (let count = are.count in absurd (omega arith))
-  begins (s ∷ list) are =
-      let count = are.count in (
-        ltb-true s n (and-left (ltb s n) (list_all (λ t. ltb t n) list) are.below),
-        record {
-          count = omega arith;
-          below = and-right (ltb s n) (list_all (λ t. ltb t n) list) are.below;
-        },
-      )
+    begins : (list : List ℕ) → AreBelow n (suc m) list → BeginsBelow n m n list
+    begins [] are = (let count = are.count in absurd (omega arith))
+    begins (s ∷ list) are =
+        let count = are.count in (
+          ltb-true s n (and-left (ltb s n) (list_all (λ t. ltb t n) list) are.below),
+          record {
+            count = omega arith;
+            below = and-right (ltb s n) (list_all (λ t. ltb t n) list) are.below;
+          },
+        )
 
-  begun : (list : List ℕ) → BeginsBelow n m n list → AreBelow n (suc m) list
-  begun [] kind = absurd kind
-  begun (s ∷ list) kind =
-      let count = kind.1.count in
-      record { count = omega arith; below = rw (lt-ltb s n kind.0) kind.1.below }
+    begun : (list : List ℕ) → BeginsBelow n m n list → AreBelow n (suc m) list
+    begun [] kind = absurd kind
+    begun (s ∷ list) kind =
+        let count = kind.1.count in
+        record { count = omega arith; below = rw (lt-ltb s n kind.0) kind.1.below }
 
-  one-more : HasGreatest (AreBelow n (suc m)) test value
-  one-more = from (with-lower n)
-    where
-      from : HasGreatest (BeginsBelow n m n) test value →
-          HasGreatest (AreBelow n (suc m)) test value
-      from (inl none) = inl (λ list are. none list (begins list are))
-      from (inr best) = inr (
-        best.0,
-        record {
-          kind = begun best.0 best.1.kind;
-          passes = best.1.passes;
-          most = λ list are. best.1.most list (begins list are);
-        },
-      )
+    one-more : HasGreatest (AreBelow n (suc m)) test value
+    one-more = from (with-lower n)
+      where
+        from : HasGreatest (BeginsBelow n m n) test value →
+            HasGreatest (AreBelow n (suc m)) test value
+        from (inl none) = inl (λ list are. none list (begins list are))
+        from (inr best) = inr (
+          best.0,
+          record {
+            kind = begun best.0 best.1.kind;
+            passes = best.1.passes;
+            most = λ list are. best.1.most list (begins list are);
+          },
+        )
 
 greatest : (n m : ℕ) (test : List ℕ → Bool) (value : List ℕ → ℕ) →
     HasGreatest (AreBelow n m) test value
 greatest n zero test value = elim (either (test [])) [
   | inl passes ↦ inr (
-      [],
-      record {
-        kind = record { count = refl; below = refl };
-        passes = passes;
-        most = only;
-      },
-    )
+    [],
+    record {
+      kind = record { count = refl; below = refl };
+      passes = passes;
+      most = only;
+    },
+  )
   | inr fails ↦ inl (none fails)
 ]
   where

@@ -69,7 +69,7 @@ loss-limit problem plan instance =
         omega arith
 
 -- so the numbers of an answer with a tidy plan are within the limits of its text
-numbers-told : (problem : Problem) (plan : List ℕ) →
+pub numbers-told : (problem : Problem) (plan : List ℕ) →
     IsLegalPlan (mill_of problem) problem.orders plan →
     (length plan ≡ length problem.orders) × All (λ s. s < length problem.orders) plan
 numbers-told problem plan fine =

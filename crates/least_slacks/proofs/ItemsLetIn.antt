@@ -11,11 +11,11 @@ use Rattle.set_minima.specs.Packs.{nobody, colour_at, IsBest, IsTable, IsNext, I
 use Rattle.set_minima.specs.Packs.{with_price}
 use Rattle.set_minima.proofs.LeftOut.{single-added, single-heavy}
 use Rattle.set_minima.proofs.OneOrder.{best-added, best-heavy, best-allowed}
-use Rattle.least_slacks.specs.Cells.{cell}
+use Rattle.set_minima.specs.Cells.{cell}
 use Rattle.least_slacks.specs.Items.{item_at, AreItems, placed, owned, others, joined_in, let_in}
 use Rattle.least_slacks.specs.Items.{IsStretch, IsRun, no_place}
 use Rattle.least_slacks.specs.declared.later_orders.Item.{Item}
-use Rattle.least_slacks.proofs.OneCell.{raised}
+use Rattle.set_minima.proofs.OneCell.{raised}
 
 -- what is among the first items stands at a place below
 pub placed-at : (items : List Item) (t i : ℕ) → placed items t i ≡ true →
@@ -151,33 +151,6 @@ module _ (rest : List Order) (items : List Item) (it : AreItems rest items) wher
       go false e = rw e refl
       go true e = rw e (same e (placed items t i) (placed items (t + 1) i) refl refl)
 
--- a whole table, where one order is let in
-pub table-adds : (rest : List Order) (prices : List ℤ) → length prices ≡ length rest →
-    (before after : ℕ → Bool) (own : List ℕ) (k j : ℕ) → j < length rest → IsNext before after j →
-    holds (colour_at rest j) own ≡ true → (old new : List ℤ) →
-    ((l : ℕ) → l < length old → cell new l ≡
-    raised (get_or rest j nobody).weight (get_or prices j (pos 0)) old l) →
-    IsTable before own k rest prices (length old) (cell old) →
-    IsTable after own k rest prices (length old) (cell new)
-table-adds rest prices same before after own k j here next paid old new e p l b =
-    elim (either (leb (get_or rest j nobody).weight l)) [
-      | inl t ↦ subst (λ x. IsBest after own k rest prices l x) (sym (rw t at (e l b)))
-          (best-added rest prices same before after own k j here next paid l (leb-true _ _ t)
-          (cell old l) (cell old (l - (get_or rest j nobody).weight)) (p l b)
-          (p (l - (get_or rest j nobody).weight) (omega arith)))
-      | inr t ↦ subst (λ x. IsBest after own k rest prices l x) (sym (rw t at (e l b)))
-          (best-heavy rest prices same before after own k j here next paid l (leb-false _ _ t)
-          (cell old l) (p l b))
-    ]
-
--- the same places by another test
-pub table-allowed : (rest : List Order) (prices : List ℤ) (before after : ℕ → Bool)
-    (own : List ℕ) (k width : ℕ) (best : ℕ → Option ℤ) →
-    ((i : ℕ) → i < length rest → before i ≡ after i) →
-    IsTable before own k rest prices width best → IsTable after own k rest prices width best
-table-allowed rest prices before after own k width best e p l b =
-    best-allowed rest prices before after own k l (best l) e (p l b)
-
 -- no order is among the first items at first
 pub none-let_in : (rest : List Order) (items : List Item) (out : List ℕ) (i : ℕ) →
     no_place i ≡ let_in rest items out 0 i
@@ -211,11 +184,6 @@ pub all-joined : (rest : List Order) (items : List Item) → AreItems rest items
     (t i : ℕ) → length items ≤ t → i < length rest → joined_in rest items out t i ≡ true
 all-joined rest items it out t i l h =
     or-right (others rest out i) _ (placed-all rest items it t i l h)
-
-pub table-width : (rest : List Order) (prices : List ℤ) (allowed : ℕ → Bool) (own : List ℕ)
-    (k w v : ℕ) (best : ℕ → Option ℤ) → w ≡ v → IsTable allowed own k rest prices w best →
-    IsTable allowed own k rest prices v best
-table-width rest prices allowed own k w v best e p l b = p l (omega arith)
 
 -- A run of items of one colour.
 

@@ -6,7 +6,7 @@ use Rattle.list_laws.specs.Sets.{holds, different}
 use Rattle.mill_model.specs.declared.order.Order.{Order}
 use Rattle.set_minima.specs.Packs.{colour_at}
 use Rattle.set_minima.specs.Joins.{all_places, IsSlab}
-use Rattle.least_slacks.specs.Cells.{cell, AreNearTo, IsSmall}
+use Rattle.set_minima.specs.Cells.{cell, AreNearTo, IsSmall}
 use Rattle.least_slacks.specs.Limits.{mill_within}
 use Rattle.least_slacks.specs.Later.{IsTableOf, AreLayersOf, HaveSame, others_of}
 use Rattle.least_slacks.specs.declared.key.Key.{Key}

@@ -5,7 +5,7 @@ use Rattle.mill_model.specs.Slab.{load}
 use Rattle.mill_model.specs.declared.order.Order.{Order}
 use Rattle.set_minima.specs.Packs.{IsTable, colour_at}
 use Rattle.set_minima.specs.Joins.{AreOrders}
-use Rattle.least_slacks.specs.Cells.{cell, ArePrices}
+use Rattle.set_minima.specs.Cells.{ArePrices, AreLayers}
 use Rattle.least_slacks.specs.Items.{AreItems, IsRun, let_in, joined_in, others}
 use Rattle.least_slacks.specs.declared.later_orders.LaterOrders.{LaterOrders}
 use Rattle.mill_model.specs.declared.order.TheConstants.{MAX_ORDERS}
@@ -43,12 +43,6 @@ IsRunOf later out at end colour = IsRun later.rest.now later.items.now out at en
 abbrev pub IsTableOf : LaterOrders → (ℕ → Bool) → List ℕ → ℕ → ℕ → (ℕ → Option ℤ) → Type 0
 IsTableOf later allowed own k width cells =
     IsTable allowed own k later.rest.now later.prices.now width cells
-
--- layers of one width one after another: layer t has the sets of at most t colours
-abbrev pub AreLayers : (ℕ → Bool) → List Order → List ℤ → ℕ → ℕ → List ℤ → Type 0
-AreLayers allowed rest prices layers width tables =
-    (t : ℕ) → t < layers →
-    IsTable allowed [] t rest prices width (λ l. cell tables (t * width + l))
 
 abbrev pub AreLayersOf : LaterOrders → (ℕ → Bool) → ℕ → ℕ → List ℤ → Type 0
 AreLayersOf later allowed layers width tables =

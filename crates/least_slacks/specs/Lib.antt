@@ -1,4 +1,3 @@
-pub mod Cells
 pub mod Items
 pub mod Later
 pub mod Keys

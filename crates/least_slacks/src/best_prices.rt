@@ -5,7 +5,7 @@ ghost use Rattle.std.specs.Prelude.{◌∷◌, [], cond, leb, length, slice_inde
 ghost use Rattle.list_laws.specs.Sets.{holds};
 ghost use Rattle.set_minima.specs.Packs.{better, with_price, colour_at, IsNext};
 ghost use Rattle.set_minima.specs.Joins.{all_places};
-ghost use Rattle.least_slacks.specs.Cells.{cell, found, IsNear, AreNear, IsSmall};
+ghost use Rattle.set_minima.specs.Cells.{cell, found, IsNear, AreNear, IsSmall};
 ghost use Rattle.least_slacks.specs.Later.{IsLater, IsTableOf, IsRunOf, HaveSame, let_to};
 ghost use Rattle.least_slacks.specs.Later.{joined_to, others_of};
 ghost use Rattle.mill_model.specs.Limits.{all_prices};

@@ -3,7 +3,7 @@
 ghost use Rattle.std.specs.Prelude.{◌≡◌, ℕ, List, [], suc, ◌+◌, ◌-◌, ◌*◌, ◌^◌, ◌<◌, ◌≤◌, ◌⊎◌, ◌≢◌};
 ghost use Rattle.std.specs.Prelude.{length, slice_index_or, pos};
 ghost use Rattle.std.specs.Int.{int_max};
-ghost use Rattle.least_slacks.specs.Cells.{cell, AreNear};
+ghost use Rattle.set_minima.specs.Cells.{cell, AreNear};
 ghost use Rattle.least_slacks.specs.Items.{IsStretch, item_at, no_place};
 ghost use Rattle.least_slacks.specs.Later.{IsLater, IsTableOf, AreLayersOf, IsRunOf, let_to};
 ghost use Rattle.least_slacks.specs.Later.{others_of};

@@ -7,7 +7,7 @@ ghost use Rattle.mill_model.specs.Slab.{load};
 ghost use Rattle.mill_model.specs.declared.order.Order.{Order};
 ghost use Rattle.set_minima.specs.Packs.{IsTable, IsTop};
 ghost use Rattle.set_minima.specs.Joins.{gain, Packed, Joins, IsSlab, all_places};
-ghost use Rattle.least_slacks.specs.Cells.{cell, found, AreNear, AreNearTo, IsNear, IsSmall};
+ghost use Rattle.set_minima.specs.Cells.{cell, found, AreNear, AreNearTo, IsNear, IsSmall};
 ghost use Rattle.mill_model.specs.Instance.{IsOrder};
 ghost use Rattle.mill_model.specs.Limits.{IsPrice};
 ghost use Rattle.mill_model.specs.Prices.{least_slack, valid};

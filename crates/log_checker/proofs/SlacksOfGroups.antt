@@ -22,7 +22,7 @@ use Rattle.list_laws.proofs.Times.{times-pos, times-among}
 use Rattle.set_minima.specs.Packs.{nobody, colour_at}
 use Rattle.set_minima.specs.Joins.{IsSlab}
 use Rattle.set_minima.proofs.Groups.{dead-least}
-use Rattle.least_slacks.specs.Cells.{IsSmall}
+use Rattle.set_minima.specs.Cells.{IsSmall}
 use Rattle.least_slacks.specs.Keys.{AreLeast, HasColours, no_key}
 use Rattle.least_slacks.specs.Limits.{mill_within}
 use Rattle.least_slacks.specs.declared.limits.SlabLimits.{SlabLimits}

@@ -4,11 +4,12 @@ use Rattle.std.proofs.Common.{subst, sym, eq-eqb, eqb, refl}
 use Rattle.list_laws.specs.Sets.{holds}
 use Rattle.list_laws.proofs.Tests.{or-left}
 use Rattle.set_minima.specs.Packs.{colour_at}
-use Rattle.least_slacks.specs.Cells.{cell}
+use Rattle.set_minima.specs.Cells.{cell}
 use Rattle.least_slacks.specs.Items.{item_at}
 use Rattle.least_slacks.specs.Later.{let_to, IsTableOf}
-use Rattle.least_slacks.proofs.CellNumbers.{near-wider}
-use Rattle.least_slacks.proofs.ItemsLetIn.{next-let_in, table-width}
+use Rattle.set_minima.proofs.CellNumbers.{near-wider}
+use Rattle.least_slacks.proofs.ItemsLetIn.{next-let_in}
+use Rattle.set_minima.proofs.WholeTables.{table-width}
 use Rattle.mill_model.specs.Limits.{all_prices}
 use Rattle.mill_model.specs.declared.prices.TheConstants.{MAX_PRICE}
 use Rattle.least_slacks.proofs.best_prices.add_run.Goals as goal

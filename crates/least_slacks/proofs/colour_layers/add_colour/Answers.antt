@@ -1,8 +1,9 @@
 -- From the last layer down: a layer is bettered by the one below, which lacks the colour so far.
 use Rattle.std.proofs.Common.{◌≡◌, ℕ, ◌+◌, ◌-◌, ◌*◌, ◌≤◌, ◌∙◌, length, get_or, pos, arith, inl}
 use Rattle.std.proofs.Common.{mul-le-mul_right}
-use Rattle.least_slacks.proofs.CellNumbers.{near-wider}
-use Rattle.least_slacks.proofs.LayersRaised.{done-raised, done-last}
+use Rattle.set_minima.proofs.CellNumbers.{near-wider}
+use Rattle.set_minima.proofs.LayersRaised.{done-raised, done-last}
+use Rattle.least_slacks.specs.Later.{let_to}
 use Rattle.mill_model.specs.Limits.{all_prices}
 use Rattle.least_slacks.proofs.colour_layers.add_colour.Goals as goal
 
@@ -44,8 +45,8 @@ loop-t-preserved c =
     record {
       done = λ out colour run layered.
           done-raised c.args.later.now.rest.now c.args.later.now.prices.now
-          c.args.later.now.items.now out c.args.run.0
-          c.args.run.1 colour c.args.layers (length c.args.table.now) run
+          (let_to c.args.later.now out c.args.run.0) (let_to c.args.later.now out c.args.run.1)
+          colour c.args.layers (length c.args.table.now) run.next
           c.args.tables.now layered c.loop-t.t t (omega (arith, c.loop-t-test.true))
           (omega (arith, c.loop-t-test.true)) (omega (arith, c.loop-t.auto.t)) c.loop-t.tables
           c.raise_layer.new.tables (c.loop-t.invariant.done out colour run layered)
@@ -64,9 +65,9 @@ loop-t-preserved c =
 
 pub returns-clause-best : goal.returns-clause-best
 returns-clause-best c out colour run layered =
-    done-last c.args.later.now.rest.now c.args.later.now.prices.now c.args.later.now.items.now out
-    c.args.run.0 c.args.run.1
-    colour c.args.layers (length c.args.table.now) run c.args.tables.now layered
+    done-last c.args.later.now.rest.now c.args.later.now.prices.now
+    (let_to c.args.later.now out c.args.run.0) (let_to c.args.later.now out c.args.run.1)
+    colour c.args.layers (length c.args.table.now) run.next c.args.tables.now layered
     c.loop-t.tables c.loop-t.t (omega (arith, c.loop-t-test.false))
     (c.loop-t.invariant.done out colour run layered) c.loop-t.invariant.old
 

@@ -1,6 +1,6 @@
 use Rattle.std.proofs.Common.{◌≡◌, ℕ, List, [], ◌+◌, ◌-◌, ◌*◌, ◌<◌, ◌≤◌, length, pos}
 use Rattle.std.proofs.Common.{slice_index_or}
-use Rattle.least_slacks.specs.Cells.{cell, AreNear}
+use Rattle.set_minima.specs.Cells.{cell, AreNear}
 use Rattle.least_slacks.specs.Later.{let_to, IsRunOf, IsTableOf, AreLayersOf}
 use Rattle.mill_model.specs.Limits.{all_prices}
 use Rattle.least_slacks.proofs.colour_layers.add_colour.Given as goal

@@ -1,11 +1,11 @@
 -- Run by run: the layers have the orders of the runs before `at`.
 use Rattle.std.proofs.Common.{◌≡◌, [], ◌+◌, ◌*◌, length, get_or, pos, arith}
-use Rattle.least_slacks.specs.Cells.{cell}
+use Rattle.set_minima.specs.Cells.{cell}
 use Rattle.least_slacks.specs.Items.{IsStretch, no_place}
 use Rattle.least_slacks.specs.Later.{let_to, others_of}
-use Rattle.least_slacks.proofs.CellNumbers.{near-wider}
+use Rattle.set_minima.proofs.CellNumbers.{near-wider}
 use Rattle.least_slacks.proofs.ItemsLetIn.{stretch-from, before-end, none-let_in, all-let_in}
-use Rattle.least_slacks.proofs.ItemsLetIn.{table-allowed}
+use Rattle.set_minima.proofs.WholeTables.{table-allowed}
 use Rattle.mill_model.specs.Limits.{all_prices}
 use Rattle.least_slacks.proofs.colour_layers.add_colours.Goals as goal
 

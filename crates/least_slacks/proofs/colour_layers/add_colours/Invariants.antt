@@ -1,5 +1,5 @@
 use Rattle.std.proofs.Common.{ℕ, ◌-◌, ◌*◌, ◌<◌, ◌≤◌, length}
-use Rattle.least_slacks.specs.Cells.{AreNear}
+use Rattle.set_minima.specs.Cells.{AreNear}
 use Rattle.least_slacks.specs.Items.{item_at, no_place}
 use Rattle.least_slacks.specs.Later.{let_to, AreLayersOf}
 use Rattle.mill_model.specs.Limits.{all_prices}

@@ -1,9 +1,10 @@
 use Rattle.std.proofs.Common.{◌≡◌, [], true, false, length, sym, ◌+◌, ◌*◌}
 use Rattle.list_laws.specs.Sets.{holds}
-use Rattle.least_slacks.specs.Cells.{cell}
+use Rattle.set_minima.specs.Cells.{cell}
 use Rattle.least_slacks.specs.Items.{item_at}
 use Rattle.least_slacks.specs.Later.{let_to}
-use Rattle.least_slacks.proofs.ItemsLetIn.{run-out, run-new, table-allowed}
+use Rattle.least_slacks.proofs.ItemsLetIn.{run-out, run-new}
+use Rattle.set_minima.proofs.WholeTables.{table-allowed}
 use Rattle.least_slacks.proofs.colour_layers.add_next.Goals as goal
 
 pub returns-then-not-has_colour-clause-best : goal.returns-then-not-has_colour-clause-best

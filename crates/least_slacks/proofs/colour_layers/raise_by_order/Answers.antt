@@ -1,6 +1,6 @@
 use Rattle.std.proofs.Common.{◌≡◌, ℕ, suc, ◌+◌, ◌-◌, ◌*◌, ◌≤◌, get_or, pos, arith, sym}
 use Rattle.std.proofs.Common.{SFits, w64, to_z-of_z, rules}
-use Rattle.least_slacks.specs.Cells.{cell}
+use Rattle.set_minima.specs.Cells.{cell}
 use Rattle.least_slacks.specs.Items.{item_at}
 use Rattle.least_slacks.proofs.ItemsLetIn.{layer-single}
 use Rattle.least_slacks.proofs.colour_layers.raise_by_order.Goals as goal

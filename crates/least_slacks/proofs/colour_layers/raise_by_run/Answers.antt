@@ -3,10 +3,10 @@ use Rattle.std.proofs.Common.{sym, ap, [], refl}
 use Rattle.std.proofs.Common.{◌∙◌, subst}
 use Rattle.set_minima.specs.Packs.{better, IsBest}
 use Rattle.set_minima.proofs.OneColour.{layer-start, layer-end}
-use Rattle.least_slacks.specs.Cells.{cell, found}
+use Rattle.set_minima.specs.Cells.{cell, found}
 use Rattle.least_slacks.specs.Items.{let_in}
-use Rattle.least_slacks.proofs.CellNumbers.{found-max}
-use Rattle.least_slacks.proofs.LayersRaised.{near-copied, near-layer}
+use Rattle.set_minima.proofs.CellNumbers.{found-max}
+use Rattle.set_minima.proofs.LayersRaised.{near-copied, near-layer}
 use Rattle.mill_model.specs.Limits.{all_prices}
 use Rattle.least_slacks.proofs.colour_layers.raise_by_run.Goals as goal
 

@@ -1,5 +1,5 @@
 use Rattle.std.proofs.Common.{◌+◌, get_or, pos, arith}
-use Rattle.least_slacks.proofs.CellNumbers.{near-wider}
+use Rattle.set_minima.proofs.CellNumbers.{near-wider}
 use Rattle.mill_model.specs.Limits.{all_prices}
 use Rattle.mill_model.specs.declared.prices.TheConstants.{MAX_PRICE}
 use Rattle.least_slacks.proofs.colour_layers.raise_layer.Goals as goal

@@ -1,5 +1,5 @@
 use Rattle.std.proofs.Common.{◌≡◌, suc, ◌+◌, length, arith}
-use Rattle.least_slacks.proofs.LayersRaised.{spread-more, near-put, near-all}
+use Rattle.set_minima.proofs.LayersRaised.{spread-more, near-put, near-all}
 use Rattle.least_slacks.proofs.colour_layers.spread_layer.Goals as goal
 
 pub loop-t-preserved : goal.loop-t-preserved

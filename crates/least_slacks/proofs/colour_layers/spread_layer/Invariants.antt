@@ -1,5 +1,5 @@
 use Rattle.std.proofs.Common.{◌≡◌, ℕ, ◌+◌, ◌*◌, ◌<◌, length, pos, slice_index_or}
-use Rattle.least_slacks.specs.Cells.{IsNear, AreNear}
+use Rattle.set_minima.specs.Cells.{IsNear, AreNear}
 use Rattle.least_slacks.proofs.colour_layers.spread_layer.Given as goal
 
 abbrev pub invariant-loop-t : goal.invariant-loop-t

@@ -2,7 +2,7 @@ use Rattle.std.proofs.Common.{◌≡◌, suc, [], ◌+◌, ◌*◌, ◌≤◌, l
 use Rattle.std.proofs.Common.{subst, mul-le-mul_right}
 use Rattle.std.proofs.lemmas.List.{length-take, get_or_append_left}
 use Rattle.set_minima.specs.Packs.{IsBest}
-use Rattle.least_slacks.specs.Cells.{found, IsNear}
+use Rattle.set_minima.specs.Cells.{found, IsNear}
 use Rattle.least_slacks.specs.Later.{others_of}
 use Rattle.least_slacks.proofs.least_slack.fill_front.Goals as goal
 

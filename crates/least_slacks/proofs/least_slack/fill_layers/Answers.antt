@@ -2,7 +2,7 @@ use Rattle.std.proofs.Common.{◌≡◌, ℕ, zero, suc, [], ◌<◌, length, sy
 use Rattle.std.proofs.Common.{true, false}
 use Rattle.set_minima.specs.Packs.{IsBest}
 use Rattle.set_minima.proofs.OneColour.{layer-spread, table-none, table-empty}
-use Rattle.least_slacks.specs.Cells.{cell, found}
+use Rattle.set_minima.specs.Cells.{cell, found}
 use Rattle.least_slacks.specs.Items.{no_place}
 use Rattle.least_slacks.proofs.least_slack.fill_layers.Goals as goal
 

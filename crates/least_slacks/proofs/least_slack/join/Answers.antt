@@ -2,7 +2,7 @@ use Rattle.std.proofs.Common.{◌≡◌, ℕ, List, [], ◌+◌, ◌-◌, ◌*�
 use Rattle.set_minima.specs.Packs.{IsBest}
 use Rattle.set_minima.specs.Joins.{all_places}
 use Rattle.set_minima.proofs.LeftOut.{layer-enough}
-use Rattle.least_slacks.specs.Cells.{cell}
+use Rattle.set_minima.specs.Cells.{cell}
 use Rattle.least_slacks.specs.Later.{others_of, HaveSame}
 use Rattle.least_slacks.proofs.least_slack.join.Goals as goal
 

@@ -2,7 +2,7 @@ use Rattle.std.proofs.Common.{◌≡◌, ◌+◌, length, take, drop, pos, arith
 use Rattle.std.proofs.lemmas.List.{length-take, get_or_append_left}
 use Rattle.set_minima.specs.Packs.{IsBest}
 use Rattle.set_minima.specs.Joins.{all_places}
-use Rattle.least_slacks.specs.Cells.{found, IsNear}
+use Rattle.set_minima.specs.Cells.{found, IsNear}
 use Rattle.least_slacks.proofs.least_slack.join_front.Goals as goal
 
 pub returns-clause-best : goal.returns-clause-best

@@ -6,7 +6,7 @@ use Rattle.std.proofs.lemmas.Int.{ints}
 use Rattle.std.specs.Int.{int_max}
 use Rattle.list_laws.proofs.Tests.{either}
 use Rattle.set_minima.specs.Packs.{better, with_price}
-use Rattle.least_slacks.specs.Cells.{nothing, found, IsNear, IsSmall}
+use Rattle.set_minima.specs.Cells.{nothing, found, IsNear, IsSmall}
 
 abbrev floor : ℤ
 floor = neg_ℤ (pos 2305843009213693952)

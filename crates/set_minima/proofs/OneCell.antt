@@ -5,7 +5,7 @@ use Rattle.std.proofs.Common.{arith, inl, inr, eqb, eqb-true, eq-eqb}
 use Rattle.std.proofs.lemmas.List.{get_or-set_same, get_or-set_other, length-set}
 use Rattle.list_laws.proofs.Tests.{either}
 use Rattle.set_minima.specs.Packs.{better, with_price}
-use Rattle.least_slacks.specs.Cells.{cell, found, IsNear, AreNear}
+use Rattle.set_minima.specs.Cells.{cell, found, IsNear, AreNear}
 
 -- what a table has for a load once an order is let in
 abbrev pub raised : ℕ → ℤ → List ℤ → ℕ → Option ℤ

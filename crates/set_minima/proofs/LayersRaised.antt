@@ -1,6 +1,6 @@
 -- Layers of tables: one colour more in all of them.
 use Rattle.std.proofs.Common.{ℕ, suc, ◌+◌, ◌-◌, ◌*◌, ◌<◌, ◌≤◌, ◌≡◌, ◌⊎◌}
-use Rattle.std.proofs.Common.{List}
+use Rattle.std.proofs.Common.{Bool, List}
 use Rattle.std.proofs.Common.{[], refl, length, get_or, ℤ, pos, sym, ◌∙◌, subst, arith, inl}
 use Rattle.std.proofs.Common.{inr}
 use Rattle.std.proofs.Common.{mul-le-mul_right, eq-or-lt_of_le}
@@ -9,13 +9,10 @@ use Rattle.std.proofs.lemmas.List.{get_or_past}
 use Rattle.std.proofs.lemmas.Bool.{cases_lt}
 use Rattle.std.specs.Int.{int_max}
 use Rattle.mill_model.specs.declared.order.Order.{Order}
-use Rattle.set_minima.specs.Packs.{IsBest, IsTable}
+use Rattle.set_minima.specs.Packs.{IsBest, IsTable, IsNextColour}
 use Rattle.set_minima.proofs.OneColour.{layer-keep}
-use Rattle.least_slacks.specs.Cells.{cell, found, IsNear, AreNear}
-use Rattle.least_slacks.specs.Items.{let_in, IsRun}
-use Rattle.least_slacks.specs.Later.{AreLayers}
-use Rattle.least_slacks.specs.declared.later_orders.Item.{Item}
-use Rattle.least_slacks.proofs.CellNumbers.{near-wider, near-max, near-small}
+use Rattle.set_minima.specs.Cells.{cell, found, IsNear, AreNear, AreLayers}
+use Rattle.set_minima.proofs.CellNumbers.{near-wider, near-max, near-small}
 
 pub near-zero : (n : ℕ) → IsNear n (pos 0)
 near-zero n = near-small n (pos 0) (omega (arith, ints), omega (arith, ints))
@@ -102,13 +99,13 @@ spread-more t width old new table e before here other s h i b = elim (cases_lt s
 ]
 
 -- The layers from the last down: those from t on are done, the others are as at first.
-module _ (rest : List Order) (prices : List ℤ) (items : List Item) (out : List ℕ)
-    (at end colour layers width : ℕ) (run : IsRun rest items out at end colour) (start : List ℤ)
-    (layered : AreLayers (let_in rest items out at) rest prices layers width start) where
+module _ (rest : List Order) (prices : List ℤ) (before after : ℕ → Bool) (colour layers width : ℕ)
+    (next : IsNextColour rest before after colour) (start : List ℤ)
+    (layered : AreLayers before rest prices layers width start) where
   abbrev pub Done : ℕ → List ℤ → Type 0
   Done t tables =
       (s : ℕ) → t ≤ s → s < layers →
-      IsTable (let_in rest items out end) [] s rest prices width
+      IsTable after [] s rest prices width
       (λ l. cell tables (s * width + l))
 
   abbrev pub Old : ℕ → List ℤ → Type 0
@@ -119,32 +116,32 @@ module _ (rest : List Order) (prices : List ℤ) (items : List Item) (out : List
       let m : suc s * width ≤ t * width = mul-le-mul_right width (omega arith) in omega arith
 
   pub old-layer : (t : ℕ) (tables : List ℤ) → Old t tables → (s : ℕ) → s < t → s < layers →
-      IsTable (let_in rest items out at) [] s rest prices width
+      IsTable before [] s rest prices width
       (λ l. cell tables (s * width + l))
   old-layer t tables o s h k l b =
-      subst (λ x. IsBest (let_in rest items out at) [] s rest prices l (found x))
+      subst (λ x. IsBest before [] s rest prices l (found x))
       (sym (o (s * width + l) (inside s t l h b))) (layered s k l b)
 
   pub done-more : (t : ℕ) (tables new : List ℤ) → t < layers → Done (suc t) tables →
-      IsTable (let_in rest items out end) [] t rest prices width
+      IsTable after [] t rest prices width
       (λ l. cell new (t * width + l)) →
       ((i : ℕ) → (i < t * width) ⊎ (t * width + width ≤ i) →
       get_or new i (pos 0) ≡ get_or tables i (pos 0)) → Done t new
   done-more t tables new h d here other s a b l c = elim (eq-or-lt_of_le {n = t} {m = s} a) [
-    | inl e ↦ subst (λ z. IsBest (let_in rest items out end) [] z rest prices l
+    | inl e ↦ subst (λ z. IsBest after [] z rest prices l
         (cell new (z * width + l))) e (here l c)
     | inr e ↦ (let m : suc t * width ≤ s * width = mul-le-mul_right width (omega arith) in
-        subst (λ x. IsBest (let_in rest items out end) [] s rest prices l (found x))
+        subst (λ x. IsBest after [] s rest prices l (found x))
         (sym (other (s * width + l) (inr (omega arith)))) (d s (omega arith) b l c))
   ]
 
   pub done-last : (tables : List ℤ) (t : ℕ) → t ≤ 1 → Done t tables → Old t tables →
-      AreLayers (let_in rest items out end) rest prices layers width tables
+      AreLayers after rest prices layers width tables
   done-last tables t h d o s a l b = elim (cases_lt s t) [
     | inl e ↦ (let z : s ≡ 0 = omega arith in
-        let f : IsBest (let_in rest items out at) [] s rest prices l
+        let f : IsBest before [] s rest prices l
         (cell tables (s * width + l)) = old-layer t tables o s e a l b in
-        layer-keep rest (let_in rest items out at) (let_in rest items out end) [] colour run.next
+        layer-keep rest before after [] colour next
         refl prices s l (cell tables (s * width + l)) z f)
     | inr e ↦ d s e a l b
   ]
@@ -153,11 +150,11 @@ module _ (rest : List Order) (prices : List ℤ) (items : List Item) (out : List
   pub done-raised : (top t : ℕ) → suc t ≡ top → 1 ≤ t → top ≤ layers → (tables new : List ℤ) →
       Done top tables → Old top tables →
       ((k : ℕ) →
-      IsTable (let_in rest items out at) [] k rest prices width
+      IsTable before [] k rest prices width
       (λ l. cell tables ((t - 1) * width + l)) →
-      IsTable (let_in rest items out at) [] (suc k) rest prices width
+      IsTable before [] (suc k) rest prices width
       (λ l. cell tables (t * width + l)) →
-      IsTable (let_in rest items out end) [] (suc k) rest prices width
+      IsTable after [] (suc k) rest prices width
       (λ l. cell new (t * width + l))) →
       ((i : ℕ) → (i < t * width) ⊎ (t * width + width ≤ i) →
       get_or new i (pos 0) ≡ get_or tables i (pos 0)) → Done t new
@@ -165,9 +162,9 @@ module _ (rest : List Order) (prices : List ℤ) (items : List Item) (out : List
       let s : suc (t - 1) ≡ t = omega arith in
       let d' : Done (suc t) tables = subst (λ z. Done z tables) (sym e) d in
       done-more t tables new (omega arith) d'
-      (subst (λ z. IsTable (let_in rest items out end) [] z rest prices width
+      (subst (λ z. IsTable after [] z rest prices width
       (λ l. cell new (t * width + l))) s
       (best (t - 1) (old-layer top tables o (t - 1) (omega arith) (omega arith))
-      (subst (λ z. IsTable (let_in rest items out at) [] z rest prices width
+      (subst (λ z. IsTable before [] z rest prices width
       (λ l. cell tables (t * width + l))) (sym s)
       (old-layer top tables o t (omega arith) (omega arith))))) other

@@ -1,8 +1,10 @@
 -- The numbers of a table: the best prices of sets by load. A very low number stands where there is
 -- no set.
-use Rattle.std.specs.Prelude.{ℕ, ◌<◌, ◌⊎◌, cond, List, ℤ, pos, neg_ℤ, ◌-ℤ◌, ◌+ℤ◌, ◌≤ℤ◌, int_lt}
-use Rattle.std.specs.Prelude.{Option, Some, None, slice_index_or}
+use Rattle.std.specs.Prelude.{ℕ, ◌+◌, ◌*◌, ◌<◌, ◌⊎◌, Bool, cond, List, [], ℤ, pos, neg_ℤ, ◌-ℤ◌, ◌+ℤ◌}
+use Rattle.std.specs.Prelude.{◌≤ℤ◌, int_lt, Option, Some, None, slice_index_or}
+use Rattle.mill_model.specs.declared.order.Order.{Order}
 use Rattle.mill_model.specs.declared.prices.TheConstants.{MAX_PRICE}
+use Rattle.set_minima.specs.Packs.{IsTable}
 
 -- - 2 ^ 62, and half of it: from there on a number stands for a set
 abbrev pub nothing : ℤ
@@ -33,3 +35,9 @@ IsSmall n x = (neg_ℤ (pos n) ≤ℤ x) × (x ≤ℤ pos n)
 
 abbrev pub ArePrices : List ℤ → Type 0
 ArePrices prices = (i : ℕ) → IsSmall MAX_PRICE (slice_index_or prices i (pos 0))
+
+-- layers of one width one after another: layer t has the sets of at most t colours
+abbrev pub AreLayers : (ℕ → Bool) → List Order → List ℤ → ℕ → ℕ → List ℤ → Type 0
+AreLayers allowed rest prices layers width tables =
+    (t : ℕ) → t < layers →
+    IsTable allowed [] t rest prices width (λ l. cell tables (t * width + l))

@@ -1,0 +1,12 @@
+//! The least slacks of a slab over all sets of orders that may join it, where a slab carries at
+//! most two colours.
+#![tactic(auto)]
+
+mod by_colour;
+mod colour_rows;
+mod fill;
+mod gain;
+mod items;
+mod slabs;
+mod table;
+mod tops;

@@ -6,7 +6,7 @@ use Rattle.std.proofs.Math.Seq.{take-add}
 use Rattle.std.proofs.lemmas.List.{drop-drop, drop_all, take-append-drop, take_all}
 use Rattle.std.specs.Io.KnownBytes.{Appends}
 use Rattle.std.proofs.KnownBytes.{Appends-trans}
-use Rattle.mill_io.specs.Bytes.{AppendsFront, GivesCount}
+use Rattle.mill_io.specs.Bytes.{AppendsFront, AppendsToBoth, GivesCount}
 
 -- the first bytes of the piece were written
 pub front-written : (old new : Option (List ℕ)) (piece : List ℕ) (n : ℕ)
@@ -18,6 +18,11 @@ front-written old new piece n written =
 pub front-kept : (old new piece : List ℕ) (n : ℕ) → new ≡ old ++ take n piece
     → AppendsFront (Some old) (Some new) piece
 front-kept old new piece n kept = front-written (Some old) (Some new) piece n kept
+
+-- what was kept is held
+pub kept-is-held : (old new bytes : List ℕ) → new ≡ old ++ bytes →
+    AppendsToBoth (Some old) (Some new) (Some old) (Some new)
+kept-is-held old new bytes kept = (bytes, kept, kept)
 
 -- what is written of the rest of a piece goes on with it
 pub written-goes-on : (old mid new : Option (List ℕ)) (piece : List ℕ) (at count : ℕ)
@@ -70,3 +75,13 @@ taken-goes-on old mid new piece at count before more =
     let sum : at + count - at ≡ count = omega arith in
     let more' : new ≡ mid ++ take count (drop at piece) = rw sum at more in
     rw (take-add at count piece) (Appends-trans (Some old) (Some mid) (Some new) _ _ before more')
+
+-- what two writes append to the one they append to the other
+pub two-writes-append-to-both : (old mid new was then now : Option (List ℕ)) →
+    AppendsToBoth old mid was then → AppendsToBoth mid new then now →
+    AppendsToBoth old new was now
+two-writes-append-to-both old mid new was then now first second = (
+  first.0 ++ second.0,
+  Appends-trans old mid new first.0 second.0 first.1 second.1,
+  Appends-trans was then now first.0 second.0 first.2 second.2,
+)

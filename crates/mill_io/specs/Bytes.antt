@@ -8,6 +8,12 @@ abbrev pub AppendsFront : Option (List ℕ) → Option (List ℕ) → List ℕ �
 AppendsFront old new piece =
     (front : List ℕ) × (rest : List ℕ) × (piece ≡ front ++ rest) × Appends old new front
 
+-- the same bytes were appended to the one and to the other
+abbrev pub AppendsToBoth :
+    Option (List ℕ) → Option (List ℕ) → Option (List ℕ) → Option (List ℕ) → Type 0
+AppendsToBoth old new other_old other_new =
+    (bytes : List ℕ) × Appends old new bytes × Appends other_old other_new bytes
+
 -- just so many bytes were lost, from the front
 abbrev pub Loses : ℕ → Option (List ℕ) → Option (List ℕ) → Type 0
 Loses count old new = (given : List ℕ) × Consumes old new given × (length given ≡ count)
@@ -25,6 +31,11 @@ HasMoreThan limit (Some bytes) = limit < length bytes
 abbrev pub Gives : {E : Type 0} → List ℕ → List ℕ → Result ℕ E → List ℕ → Type 0
 Gives old new result buf =
     MatchResult result (λ count. new ≡ old ++ take count buf) (λ _. new ≡ old)
+
+-- what was lost, from the front, is what was given
+abbrev pub GivesLost : Option (List ℕ) → Option (List ℕ) → List ℕ → List ℕ → Type 0
+GivesLost old new given_old given_new =
+    (bytes : List ℕ) × Consumes old new bytes × (given_new ≡ given_old ++ bytes)
 
 -- a read found the end: it gave nothing, and the buffer has room
 abbrev pub FindsEnd : {E : Type 0} → Result ℕ E → List ℕ → Type 0

@@ -3,7 +3,7 @@ ghost use Rattle.std.specs.Prelude.{Contains, IsTrue, IsOk, IsErr, IfOk, OnOk, O
 ghost use Rattle.std.specs.Prelude.{vec_len, vec_capacity};
 ghost use Rattle.std.specs.Io.{ReadsAtMost};
 ghost use Rattle.std.specs.Io.KnownBytes.{Appends, ReadConsumes};
-ghost use Rattle.mill_io.specs.Bytes.{AppendsFront, FindsEnd, Gives};
+ghost use Rattle.mill_io.specs.Bytes.{AppendsFront, AppendsToBoth, FindsEnd, Gives};
 ghost use Rattle.mill_io.specs.Causes.{HasCause, count_after, one_more};
 ghost use Rattle.mill_io.specs.Memory.{Supply, Store};
 
@@ -162,12 +162,16 @@ impl MemSink {
 impl Sink for MemSink {
     ghost written = { λ s. Some s.kept };
 
+    ghost held = { λ s. Some s.kept };
+
     ghost faults = { λ s. s.faults };
 
     fn write_all(&mut self, piece: &[u8]) -> Result<(), Failed>
         ensures ok { OnOk result (Appends (Some self.old.kept) (Some self.new.kept) piece.now) }
         ensures err { OnErr result
             (AppendsFront (Some self.old.kept) (Some self.new.kept) piece.now) }
+        ensures held { AppendsToBoth (Some self.old.kept) (Some self.new.kept)
+            (Some self.old.kept) (Some self.new.kept) }
         ensures cause { HasCause self.old.faults self.new.faults result }
 
         // A listed write keeps nothing, and fails.

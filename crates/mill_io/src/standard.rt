@@ -1,7 +1,7 @@
 ghost use Rattle.std.specs.Prelude.{◌≡◌, ◌≤◌, ◌↔◌, [], Some, OnOk, OnErr, length, take};
 ghost use Rattle.std.specs.Io.KnownBytes.{Appends, ReadConsumes};
 ghost use Rattle.std.specs.Io.{ReadsAtMost};
-ghost use Rattle.mill_io.specs.Bytes.{AppendsFront, FindsEnd, Gives};
+ghost use Rattle.mill_io.specs.Bytes.{AppendsFront, AppendsToBoth, FindsEnd, Gives};
 ghost use Rattle.mill_io.specs.Causes.{HasCause};
 
 use crate::history::History;
@@ -99,6 +99,8 @@ impl<W: Write> Sink for StdSink<W> {
 
     ghost written = { λ s. Some (bytes_taken s) };
 
+    ghost held = { λ s. W.contents (writer_of s) };
+
     ghost faults = { write_faults };
 
     fn write_all(&mut self, piece: &[u8]) -> Result<(), Failed>
@@ -106,6 +108,8 @@ impl<W: Write> Sink for StdSink<W> {
             (Appends (Some (bytes_taken self.old)) (Some (bytes_taken self.new)) piece.now) }
         ensures err { OnErr result
             (AppendsFront (Some (bytes_taken self.old)) (Some (bytes_taken self.new)) piece.now) }
+        ensures held { AppendsToBoth (Some (bytes_taken self.old)) (Some (bytes_taken self.new))
+            (W.contents (writer_of self.old)) (W.contents (writer_of self.new)) }
         ensures cause { HasCause (write_faults self.old) (write_faults self.new) result }
 
         // So does the writer, where it tells what it holds.

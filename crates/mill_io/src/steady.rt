@@ -96,6 +96,8 @@ impl SteadySink {
 impl Sink for SteadySink {
     ghost written = { λ _. None };
 
+    ghost held = { λ _. None };
+
     ghost faults = { λ _. 0 };
 
     fn write_all(&mut self, piece: &[u8]) -> Result<(), Failed>

@@ -1,7 +1,7 @@
 ghost use Rattle.std.specs.Prelude.{ℕ, List, Option, OnOk, OnErr};
 ghost use Rattle.std.specs.Io.{ReadsAtMost};
 ghost use Rattle.std.specs.Io.KnownBytes.{Appends, ReadConsumes};
-ghost use Rattle.mill_io.specs.Bytes.{AppendsFront, FindsEnd, Gives};
+ghost use Rattle.mill_io.specs.Bytes.{AppendsFront, AppendsToBoth, FindsEnd, Gives};
 ghost use Rattle.mill_io.specs.Causes.{HasCause};
 
 use thiserror::Error;
@@ -40,6 +40,9 @@ pub trait Sink {
     // The bytes that were written, where they are told.
     ghost written: { Self → Option (List ℕ) };
 
+    // The bytes that are held where they went, where that is told.
+    ghost held: { Self → Option (List ℕ) };
+
     // How many writes failed.
     ghost faults: { Self → ℕ };
 
@@ -47,5 +50,7 @@ pub trait Sink {
     fn write_all(&mut self, piece: &[u8]) -> Result<(), Failed>
         ensures ok { OnOk result (Appends (written self.old) (written self.new) piece.now) }
         ensures err { OnErr result (AppendsFront (written self.old) (written self.new) piece.now) }
+        ensures held { AppendsToBoth (written self.old) (written self.new)
+            (held self.old) (held self.new) }
         ensures cause { HasCause (faults self.old) (faults self.new) result };
 }

@@ -19,3 +19,10 @@ pub mod LeastNumbers
 pub mod SortedByColour
 pub mod StretchesFound
 pub mod RunsFromStretches
+pub mod KnownColours
+pub mod ItemFound
+pub mod PaidCharges
+pub mod RowsLaidOut
+pub mod PricesSet
+pub mod TurnTables
+pub mod TablesMade

@@ -1,10 +1,12 @@
 -- The least over the tables of a slab's own colours.
 use Rattle.std.proofs.Common.{ℕ, ◌<◌, ◌≤◌, ◌≡◌, Bool, true, false, not, List, [], ◌∷◌, length, map, take, ℤ, pos, Option, eqb}
-use Rattle.std.proofs.Common.{refl, sym, ap, subst, arith}
+use Rattle.std.proofs.Common.{refl, sym, ap, subst, arith, zero, suc, Some, None}
 use Rattle.std.proofs.lemmas.List.{get_or-take, length-take-le}
 use Rattle.list_laws.specs.Sets.{holds, different}
 use Rattle.mill_model.specs.declared.order.Order.{Order}
-use Rattle.list_laws.proofs.Tests.{and-left, and-right}
+use Rattle.list_laws.proofs.Tests.{and-left, and-right, clash}
+use Rattle.set_minima.specs.Joins.{AreOrders}
+use Rattle.set_minima.proofs.OneColour.{table-none, table-empty}
 use Rattle.set_minima.specs.Packs.{colour_at, IsTable, IsBest}
 use Rattle.set_minima.specs.Joins.{all_places, all_but}
 use Rattle.set_minima.specs.Cells.{found, cell, AreNear}
@@ -88,3 +90,22 @@ row-cells rest prices A own k width n f row w e p l b =
 
 pub near-large : (xs : List ℤ) → AreNear 20500000000000 xs → AreNear 200000000000000000 xs
 near-large xs h l = near-wider 20500000000000 200000000000000000 (entry xs l) (omega arith) (h l)
+
+-- the empty set alone, where no order to come has one of the two colours
+pub none-table : (rest : List Order) (prices : List ℤ) (own : List ℕ) (n : ℕ) (table : List ℤ) →
+    AreOrders rest → different own ≡ 2 →
+    ((i : ℕ) → i < length rest → holds (colour_at rest i) own ≡ false) →
+    cell table 0 ≡ Some (pos 0) → ((l : ℕ) → suc l < n → cell table (suc l) ≡ None) →
+    IsTable all_places own 2 rest prices n (cell table)
+none-table rest prices own n table orders two none first other =
+    full-table rest prices (λ i. false) all_places own 2 n (cell table) (sym two)
+    (λ i b a. refl)
+    (λ i b a h. absurd (clash (holds (colour_at rest i) own) h (none i b))) bare
+  where
+    bare : IsTable (λ i. false) own 2 rest prices n (cell table)
+    bare zero b =
+        subst (λ z. IsBest (λ i. false) own 2 rest prices 0 z) (sym first)
+        (table-empty rest (λ i. false) own prices (λ i. refl) 2 (sym two))
+    bare (suc l) b =
+        subst (λ z. IsBest (λ i. false) own 2 rest prices (suc l) z) (sym (other l b))
+        (table-none rest (λ i. false) own prices (λ i. refl) 2 l)

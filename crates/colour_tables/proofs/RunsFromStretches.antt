@@ -40,7 +40,7 @@ once-apart (item ∷ run) apart =
     lacks [] h = refl
     lacks (x ∷ xs) h = rw (h 0 (omega arith)) (lacks xs (λ t k. h (suc t) (omega arith)))
 
-place-found : (run : List Item) (i : ℕ) → holds i (places run) ≡ true →
+pub place-found : (run : List Item) (i : ℕ) → holds i (places run) ≡ true →
     (t : ℕ) × (t < length run) × ((item_at run t).place ≡ i)
 place-found [] i h = absurd (clash false h refl)
 place-found (item ∷ run) i h = elim (or-cases (eqb i item.place) (holds i (places run)) h) [
@@ -58,7 +58,7 @@ drop-long zero n xs h = omega arith
 drop-long (suc a) n [] h = absurd (omega arith)
 drop-long (suc a) n (x ∷ xs) h = drop-long a n xs (omega arith)
 
-part-length : (a b : ℕ) (xs : List Item) → a ≤ b → b ≤ length xs →
+pub part-length : (a b : ℕ) (xs : List Item) → a ≤ b → b ≤ length xs →
     length (take (b - a) (drop a xs)) ≡ b - a
 part-length a b xs h k = take-long (b - a) (drop a xs) (drop-long a (b - a) xs (omega arith))
 

@@ -1,6 +1,6 @@
 -- The stretches of the colours, found one after another.
 use Rattle.std.proofs.Common.{ℕ, zero, suc, ◌+◌, ◌<◌, ◌≤◌, ◌≡◌, ◌≢◌, List, [], ◌∷◌, ◌++◌, length, get_or}
-use Rattle.std.proofs.Common.{refl, sym, ap, subst, arith, inl, inr}
+use Rattle.std.proofs.Common.{refl, sym, ap, ◌∙◌, subst, arith, inl, inr}
 use Rattle.std.proofs.lemmas.Bool.{cases_lt}
 use Rattle.colour_tables.specs.Stretches.{coloured_at, stretch_at, IsStretch, AreStretches}
 use Rattle.colour_tables.specs.declared.by_colour.Coloured.{Coloured}
@@ -127,3 +127,37 @@ next-stretch sorted at end ends now e s run =
               )
           ];
         }
+
+-- no stretch is empty, so there are no more of them than orders
+begins : (sorted : List Coloured) (upto : ℕ) (ends : List (ℕ × ℕ)) →
+    AreStretches sorted upto ends → (c : ℕ) → c < length ends → c ≤ (stretch_at ends c).0
+begins sorted upto ends s zero h = omega arith
+begins sorted upto ends s (suc c) h =
+    let b : c ≤ (stretch_at ends c).0 = begins sorted upto ends s c (omega arith) in
+    let l : (stretch_at ends c).0 < (stretch_at ends c).1 = (s.each c (omega arith)).some in
+    let r : (stretch_at ends c).1 ≤ (stretch_at ends (suc c)).0 =
+    s.rise c (suc c) (omega arith) h in
+    omega arith
+
+pub few-stretches : (sorted : List Coloured) (ends : List (ℕ × ℕ)) →
+    AreStretches sorted (length sorted) ends → length ends ≤ length sorted
+few-stretches sorted ends s = go (length ends) refl
+  where
+    go : (n : ℕ) → length ends ≡ n → length ends ≤ length sorted
+    go zero e = omega arith
+    go (suc n) e =
+        let b : n ≤ (stretch_at ends n).0 =
+        begins sorted (length sorted) ends s n (omega arith) in
+        let l : (stretch_at ends n).0 < (stretch_at ends n).1 = (s.each n (omega arith)).some in
+        let r : (stretch_at ends n).1 ≤ length sorted = s.below n (omega arith) in
+        omega arith
+
+-- what stands at a place of a list of pairs
+pub pair-is : (xs : List (ℕ × ℕ)) (i : ℕ) (d : ℕ × ℕ) → i < length xs → d ≡ get_or xs i d →
+    d ≡ get_or xs i (0, 0)
+pair-is xs i d h e = e ∙ same xs i h
+  where
+    same : (xs : List (ℕ × ℕ)) (i : ℕ) → i < length xs → get_or xs i d ≡ get_or xs i (0, 0)
+    same [] i h = absurd (omega arith)
+    same (x ∷ xs) zero h = refl
+    same (x ∷ xs) (suc i) h = same xs i (omega arith)

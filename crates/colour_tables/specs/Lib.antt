@@ -6,3 +6,4 @@ pub mod Rowed
 pub mod Leasts
 pub mod Owned
 pub mod Stretches
+pub mod PricedOrders

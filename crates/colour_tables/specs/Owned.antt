@@ -7,10 +7,10 @@ use Rattle.set_minima.specs.Joins.{all_but}
 use Rattle.set_minima.specs.Cells.{cell}
 use Rattle.colour_tables.specs.Colours.{but_order}
 use Rattle.colour_tables.specs.Threes.{but}
-use Rattle.colour_tables.specs.Items.{IsRun, AreSmall}
+use Rattle.colour_tables.specs.Items.{IsRun, AreSmall, item_at}
 use Rattle.colour_tables.specs.declared.items.Item.{Item}
-use Rattle.colour_tables.specs.declared.slabs.Own.{Own}
-use Rattle.colour_tables.specs.declared.slabs.Own.TheVariants.{Bare, Free, One, Two}
+use Rattle.colour_tables.specs.declared.slab.Own.{Own}
+use Rattle.colour_tables.specs.declared.slab.Own.TheVariants.{Bare, Free, One, Two, Full}
 use Rattle.colour_tables.specs.declared.slabs.Runs.{Runs}
 
 -- the items of a colour
@@ -39,9 +39,10 @@ IsHeld present Bare = Unit {0}
 IsHeld present (Free d) = holds d present ≡ true
 IsHeld present (One d) = holds d present ≡ true
 IsHeld present (Two d e) = (holds d present ≡ true) × (holds e (but d present) ≡ true)
+IsHeld present Full = Unit {0}
 
--- a slab has these colours: one that no order to come has, one that some has, or two of which one
--- or both are to come
+-- a slab has these colours: one that no order to come has, one that some has, or two of which one,
+-- both or none are to come
 abbrev pub IsOwn : List Order → (ℕ → ℕ) → List ℕ → Own → Type 0
 IsOwn rest name own Bare =
     (x : ℕ) × (own ≡ x ∷ [])
@@ -53,6 +54,9 @@ IsOwn rest name own (One d) =
     eqb (colour_at rest i) (name d) ≡ true)
 IsOwn rest name own (Two d e) =
     (different own ≡ 2) × (holds (name d) own ≡ true) × (holds (name e) own ≡ true)
+IsOwn rest name own Full =
+    (different own ≡ 2)
+    × ((i : ℕ) → i < length rest → holds (colour_at rest i) own ≡ false)
 
 -- an order of a colour may join as far as the colours go
 abbrev pub MayTake : ℕ → Own → Type 0
@@ -60,6 +64,7 @@ MayTake c Bare = Unit {0}
 MayTake c (Free d) = Unit {0}
 MayTake c (One d) = d ≡ c
 MayTake c (Two d e) = (d ≡ c) ⊎ (e ≡ c)
+MayTake c Full = ⊥
 
 -- an order in its turn: the table of its colour without it, and that of its colour and at most one
 -- other
@@ -75,3 +80,9 @@ abbrev pub IsInRun : Runs → ℕ → ℕ → Type 0
 IsInRun runs c at =
     ((slice_index_or runs.ends.items c (0, 0)).0 ≤ at)
     × (at < (slice_index_or runs.ends.items c (0, 0)).0 + length (run_of runs c))
+
+-- the item of an order stands at a place of the run of its colour
+pub record IsFound (runs : Runs) (c place at : ℕ) : Type 0 where
+  pub in_run : IsInRun runs c at
+  pub inside : at < length runs.items.items
+  pub is : (item_at runs.items.items at).place ≡ place

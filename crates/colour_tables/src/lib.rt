@@ -7,6 +7,15 @@ mod colour_rows;
 mod fill;
 mod gain;
 mod items;
+mod known;
+mod slab;
 mod slabs;
 mod table;
+mod tables;
+mod tables_made;
 mod tops;
+mod turn;
+
+pub use slab::Slab;
+pub use tables::ColourTables;
+pub use turn::Turn;

@@ -1,40 +1,28 @@
 // The least slacks of a slab, by its load and its colours.
 
-ghost use Rattle.std.specs.Prelude.{◌≡◌, ℕ, List, Bool, true, ℤ, ◌+◌, ◌-◌, ◌^◌, ◌<◌, ◌≤◌, ◌-ℤ◌, ◌∷◌, [], length};
+ghost use Rattle.std.specs.Prelude.{◌≡◌, ℕ, List, Bool, true, false, ℤ, ◌+◌, ◌-◌, ◌^◌, ◌<◌, ◌≤◌, ◌-ℤ◌, ◌∷◌, [], length};
 ghost use Rattle.std.specs.Prelude.{neg_ℤ, set, map, Some, slice_index_or};
 ghost use Rattle.colour_tables.specs.Threes.{once};
-ghost use Rattle.list_laws.specs.Sets.{holds};
+ghost use Rattle.list_laws.specs.Sets.{holds, different};
 ghost use Rattle.mill_model.specs.Prices.{least_slack};
 ghost use Rattle.mill_model.specs.Bounds.{least_on_with, least_on_without, least_new_with, least_new};
 ghost use Rattle.mill_model.specs.declared.order.Order.{Order};
 ghost use Rattle.set_minima.specs.Packs.{IsTable, IsTop, colour_at, nobody};
-ghost use Rattle.set_minima.specs.Joins.{IsSlab, gain, Packed, all_but};
+ghost use Rattle.set_minima.specs.Joins.{IsSlab, gain, Packed, all_but, all_places, AreOrders};
 ghost use Rattle.set_minima.specs.Cells.{cell, found, AreNear, IsSmall};
 ghost use Rattle.colour_tables.specs.Entries.{AreSmallAll};
 ghost use Rattle.colour_tables.specs.Leasts.{AreCharged};
 ghost use Rattle.colour_tables.specs.Colours.{but_order};
-ghost use Rattle.colour_tables.specs.Leasts.{IsRoom, two_colours};
+ghost use Rattle.colour_tables.specs.Leasts.{IsLeast, IsRoom, two_colours};
 ghost use Rattle.colour_tables.specs.Rowed.{IsShaped, AreRows};
-ghost use Rattle.colour_tables.specs.Items.{AreSmall, item_at};
-ghost use Rattle.colour_tables.specs.Owned.{run_of, IsRunSafe, AreRunsSafe, AreRuns, IsHeld, IsOwn, MayTake, IsTurn, IsInRun};
+ghost use Rattle.colour_tables.specs.Items.{AreSmall, IsRun, item_at};
+ghost use Rattle.colour_tables.specs.Owned.{run_of, IsRunSafe, AreRunsSafe, AreRuns, IsHeld, IsOwn, MayTake, IsTurn, IsInRun, IsFound};
 
 use crate::colour_rows::Rows;
 use crate::gain::{least, least_above};
 use crate::items::Item;
-use crate::table::fill_run;
-
-/// The colours of a slab, by those of them that are to come.
-#[derive(Clone, Copy, Debug, Drop)]
-pub(crate) enum Own {
-    /// One colour, which is not to come.
-    Bare,
-    /// One colour, which is to come.
-    Free(usize),
-    /// Two colours, one of them to come.
-    One(usize),
-    /// Two colours, both to come.
-    Two(usize, usize),
-}
+use crate::slab::Own;
+use crate::table::{clear, fill_run};
 
 /// The orders to come, colour by colour.
 #[derive(Drop)]
@@ -52,6 +40,22 @@ impl Runs {
     {
         let (at, end) = self.ends[c];
         &self.items[at..end]
+    }
+
+    /// Where an order stands among the items, by its colour and its place.
+    pub(crate) fn position(&self, c: usize, place: usize) -> usize
+        requires safe { IsRunSafe self.now c }
+        ensures is { (rest : List Order) → (prices : List ℤ) → (x : ℕ) →
+            IsRun rest prices x (run_of self.now c) → place < length rest →
+            colour_at rest place ≡ x → IsFound self.now c place result }
+    {
+        let (at, end) = self.ends[c];
+        for t in at..end {
+            if self.items[t].place == place {
+                return t;
+            }
+        }
+        at
     }
 
     /// Sets the price of one of the orders of a colour.
@@ -93,6 +97,22 @@ fn least_front(charges: &[i64], table: &[i64], n: usize) -> i64
     least(charges, &table[..n])
 }
 
+/// The least slack of a slab that no order may join: that of the empty set.
+fn least_of_none(table: &mut [i64], charges: &[i64]) -> i64
+    requires some { 0 < length table.old }
+    requires reach { length table.old ≤ length charges.now }
+    requires charges { AreSmallAll charges.now }
+    ensures is { (rest : List Order) → (prices : List ℤ) → (charge : ℕ → ℕ) →
+        (largest base : ℕ) → (own : List ℕ) → AreOrders rest → different own ≡ 2 →
+        ((i : ℕ) → i < length rest → holds (colour_at rest i) own ≡ false) →
+        IsRoom largest base (length table.old) →
+        AreCharged charge base (length table.old) charges.now →
+        IsLeast rest prices charge largest base all_places own result }
+{
+    clear(table);
+    least(charges, table)
+}
+
 /// The least slack of a slab over all sets that may join it. The table is a place to work in, as
 /// long as the room of the slab.
 pub(crate) fn least_on(
@@ -122,6 +142,7 @@ pub(crate) fn least_on(
         Own::Free(d) => rows.least_beside(table, charges, d, runs.run(d), usize::MAX),
         Own::One(d) => least_front(charges, rows.row(d), table.len()),
         Own::Two(d, e) => rows.least_pair(table, charges, d, runs.run(e), usize::MAX),
+        Own::Full => least_of_none(table, charges),
     }
 }
 
@@ -223,6 +244,7 @@ pub(crate) fn least_with(
             }
             rows.least_pair(table, charges, d, runs.run(c), j)
         }
+        Own::Full => least_of_none(table, charges),
     }
 }
 
@@ -276,6 +298,7 @@ pub(crate) fn least_without(
             }
             rows.least_pair(table, charges, d, runs.run(c), j)
         }
+        Own::Full => least_of_none(table, charges),
     }
 }
 

@@ -97,3 +97,14 @@ returns-in-Two c = record {
       (least-all rest prices charge largest base colours c.least_pair.result
       18446744073709551615 (omega arith) least) group of));
 }
+
+pub returns-in-Full : goal.returns-in-Full
+returns-in-Full c = record {
+  is = λ rest prices name charge largest base colours rows runs far own room charged group of.
+      let f : SFits w64 c.least_of_none.result = search rules in
+      let o = subst (λ z. IsOwn rest name colours z) c.in-Full.is own in
+      simp to_z-of_z (sym (slack-on rest prices charge largest base colours
+      c.least_of_none.result room.fits (omega (arith, o.0))
+      (c.least_of_none.ensures.is rest prices charge largest base colours rows.orders o.0 o.1 room
+      charged) group of));
+}

@@ -174,3 +174,7 @@ returns-else-d-c-2 c = record {
       (subst (λ z. with_colour z colours ≡ colours) (sym turn.colour) (with-old a colours has))
       (omega (arith, o.0)) least group of);
 }
+
+pub returns-in-Full : goal.returns-in-Full
+returns-in-Full c =
+    absurd (subst (λ z. MayTake c.args.c z) c.in-Full.is c.requires.takes)

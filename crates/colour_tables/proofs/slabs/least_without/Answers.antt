@@ -135,3 +135,7 @@ returns-else-d-c-2 c = record {
       simp to_z-of_z (slack-without-priced rest prices charge largest base colours
       c.least_pair-in-Two.result j v room.fits (omega (arith, o.0)) least group of);
 }
+
+pub returns-in-Full : goal.returns-in-Full
+returns-in-Full c =
+    absurd (subst (λ z. MayTake c.args.c z) c.in-Full.is c.requires.takes)

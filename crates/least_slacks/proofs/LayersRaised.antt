@@ -12,7 +12,7 @@ use Rattle.mill_model.specs.declared.order.Order.{Order}
 use Rattle.set_minima.specs.Packs.{IsBest, IsTable}
 use Rattle.set_minima.proofs.OneColour.{layer-keep}
 use Rattle.least_slacks.specs.Cells.{cell, found, IsNear, AreNear}
-use Rattle.least_slacks.specs.Items.{let_in, IsRun}
+use Rattle.least_slacks.specs.Items.{Letting, let_in, IsRun}
 use Rattle.least_slacks.specs.Later.{AreLayers}
 use Rattle.least_slacks.specs.declared.later_orders.Item.{Item}
 use Rattle.least_slacks.proofs.CellNumbers.{near-wider, near-max, near-small}
@@ -59,21 +59,22 @@ near-layer n m at old new table w h k here other i = elim (cases_lt i at) [
   ]
 ]
 
--- one layer more of a near table
-pub near-put : (n t : ℕ) (old new table : List ℤ) → AreNear n table →
-    ((i : ℕ) → i < t * length table → IsNear n (get_or old i (pos 0))) →
-    ((l : ℕ) → l < length table →
-    get_or new (t * length table + l) (pos 0) ≡ get_or table l (pos 0)) →
-    ((i : ℕ) → (i < t * length table) ⊎ (t * length table + length table ≤ i) →
+-- one layer more that is near
+pub near-put : (n t width apart : ℕ) (old new from : List ℤ) →
+    ((l : ℕ) → l < width → IsNear n (get_or from (t * apart + l) (pos 0))) →
+    ((i : ℕ) → i < t * width → IsNear n (get_or old i (pos 0))) →
+    ((l : ℕ) → l < width →
+    get_or new (t * width + l) (pos 0) ≡ get_or from (t * apart + l) (pos 0)) →
+    ((i : ℕ) → (i < t * width) ⊎ (t * width + width ≤ i) →
     get_or new i (pos 0) ≡ get_or old i (pos 0)) →
-    (i : ℕ) → i < suc t * length table → IsNear n (get_or new i (pos 0))
-near-put n t old new table k h here other i b = elim (cases_lt i (t * length table)) [
+    (i : ℕ) → i < suc t * width → IsNear n (get_or new i (pos 0))
+near-put n t width apart old new from k h here other i b = elim (cases_lt i (t * width)) [
   | inl c ↦ rw (other i (inl c)) (h i c)
-  | inr c ↦ (let l = i - t * length table in
-      let e : t * length table + l ≡ i = omega arith in
-      let f : get_or new (t * length table + l) (pos 0) ≡ get_or table l (pos 0) =
+  | inr c ↦ (let l = i - t * width in
+      let e : t * width + l ≡ i = omega arith in
+      let f : get_or new (t * width + l) (pos 0) ≡ get_or from (t * apart + l) (pos 0) =
       here l (omega arith) in
-      subst (λ z. IsNear n z) (sym (rw e at f)) (k l))
+      subst (λ z. IsNear n z) (sym (rw e at f)) (k l (omega arith)))
 ]
 
 -- all layers
@@ -84,31 +85,32 @@ near-all n tables h i = elim (cases_lt i (length tables)) [
   | inr b ↦ rw (get_or_past tables i (pos 0) b) (near-zero n)
 ]
 
--- One table in more and more layers.
-pub spread-more : (t width : ℕ) (old new table : List ℤ) → length table ≡ width →
+-- Layers that are copied, one more.
+pub copied-more : (t width apart : ℕ) (old new from : List ℤ) →
     ((s : ℕ) → s < t → (i : ℕ) → i < width →
-    get_or old (s * width + i) (pos 0) ≡ get_or table i (pos 0)) →
-    ((l : ℕ) → l < length table → get_or new (t * width + l) (pos 0) ≡ get_or table l (pos 0)) →
-    ((i : ℕ) → (i < t * width) ⊎ (t * width + length table ≤ i) →
+    get_or old (s * width + i) (pos 0) ≡ get_or from (s * apart + i) (pos 0)) →
+    ((l : ℕ) → l < width →
+    get_or new (t * width + l) (pos 0) ≡ get_or from (t * apart + l) (pos 0)) →
+    ((i : ℕ) → (i < t * width) ⊎ (t * width + width ≤ i) →
     get_or new i (pos 0) ≡ get_or old i (pos 0)) →
     (s : ℕ) → s < suc t → (i : ℕ) → i < width →
-    get_or new (s * width + i) (pos 0) ≡ get_or table i (pos 0)
-spread-more t width old new table e before here other s h i b = elim (cases_lt s t) [
+    get_or new (s * width + i) (pos 0) ≡ get_or from (s * apart + i) (pos 0)
+copied-more t width apart old new from before here other s h i b = elim (cases_lt s t) [
   | inl q ↦ (let m : suc s * width ≤ t * width = mul-le-mul_right width (omega arith) in
       other (s * width + i) (inl (omega arith)) ∙ before s q i b)
   | inr q ↦ (let z : t ≡ s = omega arith in
-      subst (λ z. get_or new (z * width + i) (pos 0) ≡ get_or table i (pos 0)) z
-      (here i (omega arith)))
+      subst (λ z. get_or new (z * width + i) (pos 0) ≡ get_or from (z * apart + i) (pos 0)) z
+      (here i b))
 ]
 
 -- The layers from the last down: those from t on are done, the others are as at first.
-module _ (rest : List Order) (prices : List ℤ) (items : List Item) (out : List ℕ)
-    (at end colour layers width : ℕ) (run : IsRun rest items out at end colour) (start : List ℤ)
-    (layered : AreLayers (let_in rest items out at) rest prices layers width start) where
+module _ (rest : List Order) (prices : List ℤ) (items : List Item) (letting : Letting)
+    (at end colour layers width : ℕ) (run : IsRun rest items letting at end colour) (start : List ℤ)
+    (layered : AreLayers (let_in rest items letting at) rest prices layers width start) where
   abbrev pub Done : ℕ → List ℤ → Type 0
   Done t tables =
       (s : ℕ) → t ≤ s → s < layers →
-      IsTable (let_in rest items out end) [] s rest prices width
+      IsTable (let_in rest items letting end) [] s rest prices width
       (λ l. cell tables (s * width + l))
 
   abbrev pub Old : ℕ → List ℤ → Type 0
@@ -119,32 +121,32 @@ module _ (rest : List Order) (prices : List ℤ) (items : List Item) (out : List
       let m : suc s * width ≤ t * width = mul-le-mul_right width (omega arith) in omega arith
 
   pub old-layer : (t : ℕ) (tables : List ℤ) → Old t tables → (s : ℕ) → s < t → s < layers →
-      IsTable (let_in rest items out at) [] s rest prices width
+      IsTable (let_in rest items letting at) [] s rest prices width
       (λ l. cell tables (s * width + l))
   old-layer t tables o s h k l b =
-      subst (λ x. IsBest (let_in rest items out at) [] s rest prices l (found x))
+      subst (λ x. IsBest (let_in rest items letting at) [] s rest prices l (found x))
       (sym (o (s * width + l) (inside s t l h b))) (layered s k l b)
 
   pub done-more : (t : ℕ) (tables new : List ℤ) → t < layers → Done (suc t) tables →
-      IsTable (let_in rest items out end) [] t rest prices width
+      IsTable (let_in rest items letting end) [] t rest prices width
       (λ l. cell new (t * width + l)) →
       ((i : ℕ) → (i < t * width) ⊎ (t * width + width ≤ i) →
       get_or new i (pos 0) ≡ get_or tables i (pos 0)) → Done t new
   done-more t tables new h d here other s a b l c = elim (eq-or-lt_of_le {n = t} {m = s} a) [
-    | inl e ↦ subst (λ z. IsBest (let_in rest items out end) [] z rest prices l
+    | inl e ↦ subst (λ z. IsBest (let_in rest items letting end) [] z rest prices l
         (cell new (z * width + l))) e (here l c)
     | inr e ↦ (let m : suc t * width ≤ s * width = mul-le-mul_right width (omega arith) in
-        subst (λ x. IsBest (let_in rest items out end) [] s rest prices l (found x))
+        subst (λ x. IsBest (let_in rest items letting end) [] s rest prices l (found x))
         (sym (other (s * width + l) (inr (omega arith)))) (d s (omega arith) b l c))
   ]
 
   pub done-last : (tables : List ℤ) (t : ℕ) → t ≤ 1 → Done t tables → Old t tables →
-      AreLayers (let_in rest items out end) rest prices layers width tables
+      AreLayers (let_in rest items letting end) rest prices layers width tables
   done-last tables t h d o s a l b = elim (cases_lt s t) [
     | inl e ↦ (let z : s ≡ 0 = omega arith in
-        let f : IsBest (let_in rest items out at) [] s rest prices l
+        let f : IsBest (let_in rest items letting at) [] s rest prices l
         (cell tables (s * width + l)) = old-layer t tables o s e a l b in
-        layer-keep rest (let_in rest items out at) (let_in rest items out end) [] colour run.next
+        layer-keep rest (let_in rest items letting at) (let_in rest items letting end) [] colour run.next
         refl prices s l (cell tables (s * width + l)) z f)
     | inr e ↦ d s e a l b
   ]
@@ -153,11 +155,11 @@ module _ (rest : List Order) (prices : List ℤ) (items : List Item) (out : List
   pub done-raised : (top t : ℕ) → suc t ≡ top → 1 ≤ t → top ≤ layers → (tables new : List ℤ) →
       Done top tables → Old top tables →
       ((k : ℕ) →
-      IsTable (let_in rest items out at) [] k rest prices width
+      IsTable (let_in rest items letting at) [] k rest prices width
       (λ l. cell tables ((t - 1) * width + l)) →
-      IsTable (let_in rest items out at) [] (suc k) rest prices width
+      IsTable (let_in rest items letting at) [] (suc k) rest prices width
       (λ l. cell tables (t * width + l)) →
-      IsTable (let_in rest items out end) [] (suc k) rest prices width
+      IsTable (let_in rest items letting end) [] (suc k) rest prices width
       (λ l. cell new (t * width + l))) →
       ((i : ℕ) → (i < t * width) ⊎ (t * width + width ≤ i) →
       get_or new i (pos 0) ≡ get_or tables i (pos 0)) → Done t new
@@ -165,9 +167,9 @@ module _ (rest : List Order) (prices : List ℤ) (items : List Item) (out : List
       let s : suc (t - 1) ≡ t = omega arith in
       let d' : Done (suc t) tables = subst (λ z. Done z tables) (sym e) d in
       done-more t tables new (omega arith) d'
-      (subst (λ z. IsTable (let_in rest items out end) [] z rest prices width
+      (subst (λ z. IsTable (let_in rest items letting end) [] z rest prices width
       (λ l. cell new (t * width + l))) s
       (best (t - 1) (old-layer top tables o (t - 1) (omega arith) (omega arith))
-      (subst (λ z. IsTable (let_in rest items out at) [] z rest prices width
+      (subst (λ z. IsTable (let_in rest items letting at) [] z rest prices width
       (λ l. cell tables (t * width + l))) (sym s)
       (old-layer top tables o t (omega arith) (omega arith))))) other

@@ -5,3 +5,6 @@ pub mod LayersRaised
 pub mod OrdersByColour
 pub mod LeastFromTable
 mod ColoursCounted
+mod KeysLeftOut
+mod KeysInHalves
+mod NewSlab

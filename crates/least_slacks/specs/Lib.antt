@@ -3,3 +3,4 @@ pub mod Items
 pub mod Later
 pub mod Keys
 pub mod Limits
+pub mod Parts

@@ -2,3 +2,6 @@ pub mod ItemsLetIn
 pub mod OrdersByColour
 pub mod LeastFromTable
 mod ColoursCounted
+mod KeysLeftOut
+mod KeysInHalves
+mod NewSlab

@@ -6,7 +6,7 @@ use Rattle.mill_model.specs.declared.order.Order.{Order}
 use Rattle.set_minima.specs.Packs.{IsTable, colour_at}
 use Rattle.set_minima.specs.Joins.{AreOrders}
 use Rattle.set_minima.specs.Cells.{ArePrices, AreLayers}
-use Rattle.least_slacks.specs.Items.{AreItems, IsRun, let_in, joined_in, others}
+use Rattle.least_slacks.specs.Items.{AreItems, IsRun, Letting, let_in, joined_in, others}
 use Rattle.least_slacks.specs.declared.later_orders.LaterOrders.{LaterOrders}
 use Rattle.mill_model.specs.declared.order.TheConstants.{MAX_ORDERS}
 
@@ -19,13 +19,13 @@ pub record IsLater (later : LaterOrders) : Type 0 where
   pub weighs : later.weight ≡ load later.rest.now
   pub coloured : different (map (λ order. order.colour) later.rest.now) ≤ later.kinds
 
--- the orders that have none of the colours that are left out; of them, those among the first t
--- items; and with those among the first t items
+-- the orders that have none of the colours that are left out; those that are let in with the first
+-- t items; and the former with all of the first t items
 abbrev pub others_of : LaterOrders → List ℕ → ℕ → Bool
 others_of later out = others later.rest.now out
 
-abbrev pub let_to : LaterOrders → List ℕ → ℕ → ℕ → Bool
-let_to later out t = let_in later.rest.now later.items.now out t
+abbrev pub let_to : LaterOrders → Letting → ℕ → ℕ → Bool
+let_to later letting t = let_in later.rest.now later.items.now letting t
 
 abbrev pub joined_to : LaterOrders → List ℕ → ℕ → ℕ → Bool
 joined_to later out t = joined_in later.rest.now later.items.now out t
@@ -36,9 +36,9 @@ HaveSame later own out =
     (i : ℕ) → i < length later.rest.now →
     holds (colour_at later.rest.now i) own ≡ holds (colour_at later.rest.now i) out
 
--- items from one place to another are those of a colour that isn't left out
-abbrev pub IsRunOf : LaterOrders → List ℕ → ℕ → ℕ → ℕ → Type 0
-IsRunOf later out at end colour = IsRun later.rest.now later.items.now out at end colour
+-- items from one place to another are those of a colour that is let in
+abbrev pub IsRunOf : LaterOrders → Letting → ℕ → ℕ → ℕ → Type 0
+IsRunOf later letting at end colour = IsRun later.rest.now later.items.now letting at end colour
 
 abbrev pub IsTableOf : LaterOrders → (ℕ → Bool) → List ℕ → ℕ → ℕ → (ℕ → Option ℤ) → Type 0
 IsTableOf later allowed own k width cells =

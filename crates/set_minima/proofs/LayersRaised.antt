@@ -1,7 +1,7 @@
 -- Layers of tables: one colour more in all of them.
 use Rattle.std.proofs.Common.{ℕ, suc, ◌+◌, ◌-◌, ◌*◌, ◌<◌, ◌≤◌, ◌≡◌, ◌⊎◌}
 use Rattle.std.proofs.Common.{Bool, List}
-use Rattle.std.proofs.Common.{[], refl, length, get_or, ℤ, pos, sym, ◌∙◌, subst, arith, inl}
+use Rattle.std.proofs.Common.{[], refl, length, get_or, ℤ, pos, sym, ap, ◌∙◌, subst, arith, inl}
 use Rattle.std.proofs.Common.{inr}
 use Rattle.std.proofs.Common.{mul-le-mul_right, eq-or-lt_of_le}
 use Rattle.std.proofs.lemmas.Int.{ints}
@@ -56,7 +56,28 @@ near-layer n m at old new table w h k here other i = elim (cases_lt i at) [
   ]
 ]
 
--- one layer more of a near table
+-- One layer more is copied from other layers. It is as near as what it is copied from.
+pub copied-near : (n t width apart : ℕ) (old new from : List ℤ) →
+    ((l : ℕ) → l < width → IsNear n (get_or from (t * apart + l) (pos 0))) →
+    ((i : ℕ) → i < t * width → IsNear n (get_or old i (pos 0))) →
+    ((l : ℕ) → l < width →
+    get_or new (t * width + l) (pos 0) ≡ get_or from (t * apart + l) (pos 0)) →
+    ((i : ℕ) → (i < t * width) ⊎ (t * width + width ≤ i) →
+    get_or new i (pos 0) ≡ get_or old i (pos 0)) →
+    (i : ℕ) → i < suc t * width → IsNear n (get_or new i (pos 0))
+copied-near n t width apart old new from k h here other i b = elim (cases_lt i (t * width)) [
+  | inl c ↦ rw (other i (inl c)) (h i c)
+  | inr c ↦ (let l = i - t * width in
+      let e : t * width + l ≡ i = omega arith in
+      let f : get_or new (t * width + l) (pos 0) ≡ get_or from (t * apart + l) (pos 0) =
+      here l (omega arith) in
+      subst (λ z. IsNear n z) (sym (rw e at f)) (k l (omega arith)))
+]
+
+at-once : (t l : ℕ) → t * 0 + l ≡ l
+at-once t l = omega arith
+
+-- one table in one layer more: it is copied from layers that all lie at the table
 pub near-put : (n t : ℕ) (old new table : List ℤ) → AreNear n table →
     ((i : ℕ) → i < t * length table → IsNear n (get_or old i (pos 0))) →
     ((l : ℕ) → l < length table →
@@ -64,14 +85,10 @@ pub near-put : (n t : ℕ) (old new table : List ℤ) → AreNear n table →
     ((i : ℕ) → (i < t * length table) ⊎ (t * length table + length table ≤ i) →
     get_or new i (pos 0) ≡ get_or old i (pos 0)) →
     (i : ℕ) → i < suc t * length table → IsNear n (get_or new i (pos 0))
-near-put n t old new table k h here other i b = elim (cases_lt i (t * length table)) [
-  | inl c ↦ rw (other i (inl c)) (h i c)
-  | inr c ↦ (let l = i - t * length table in
-      let e : t * length table + l ≡ i = omega arith in
-      let f : get_or new (t * length table + l) (pos 0) ≡ get_or table l (pos 0) =
-      here l (omega arith) in
-      subst (λ z. IsNear n z) (sym (rw e at f)) (k l))
-]
+near-put n t old new table k h here other =
+    copied-near n t (length table) 0 old new table
+    (λ l b. subst (λ z. IsNear n (get_or table z (pos 0))) (sym (at-once t l)) (k l)) h
+    (λ l b. here l b ∙ ap (λ z. get_or table z (pos 0)) (sym (at-once t l))) other
 
 -- all layers
 pub near-all : (n : ℕ) (tables : List ℤ) →
@@ -79,6 +96,24 @@ pub near-all : (n : ℕ) (tables : List ℤ) →
 near-all n tables h i = elim (cases_lt i (length tables)) [
   | inl b ↦ h i b
   | inr b ↦ rw (get_or_past tables i (pos 0) b) (near-zero n)
+]
+
+-- One layer more is copied, behind those that were.
+pub copied-more : (t width apart : ℕ) (old new from : List ℤ) →
+    ((s : ℕ) → s < t → (i : ℕ) → i < width →
+    get_or old (s * width + i) (pos 0) ≡ get_or from (s * apart + i) (pos 0)) →
+    ((l : ℕ) → l < width →
+    get_or new (t * width + l) (pos 0) ≡ get_or from (t * apart + l) (pos 0)) →
+    ((i : ℕ) → (i < t * width) ⊎ (t * width + width ≤ i) →
+    get_or new i (pos 0) ≡ get_or old i (pos 0)) →
+    (s : ℕ) → s < suc t → (i : ℕ) → i < width →
+    get_or new (s * width + i) (pos 0) ≡ get_or from (s * apart + i) (pos 0)
+copied-more t width apart old new from before here other s h i b = elim (cases_lt s t) [
+  | inl q ↦ (let m : suc s * width ≤ t * width = mul-le-mul_right width (omega arith) in
+      other (s * width + i) (inl (omega arith)) ∙ before s q i b)
+  | inr q ↦ (let z : t ≡ s = omega arith in
+      subst (λ z. get_or new (z * width + i) (pos 0) ≡ get_or from (z * apart + i) (pos 0)) z
+      (here i b))
 ]
 
 -- One table in more and more layers.
@@ -90,13 +125,16 @@ pub spread-more : (t width : ℕ) (old new table : List ℤ) → length table �
     get_or new i (pos 0) ≡ get_or old i (pos 0)) →
     (s : ℕ) → s < suc t → (i : ℕ) → i < width →
     get_or new (s * width + i) (pos 0) ≡ get_or table i (pos 0)
-spread-more t width old new table e before here other s h i b = elim (cases_lt s t) [
-  | inl q ↦ (let m : suc s * width ≤ t * width = mul-le-mul_right width (omega arith) in
-      other (s * width + i) (inl (omega arith)) ∙ before s q i b)
-  | inr q ↦ (let z : t ≡ s = omega arith in
-      subst (λ z. get_or new (z * width + i) (pos 0) ≡ get_or table i (pos 0)) z
-      (here i (omega arith)))
-]
+spread-more t width old new table e before here other s h i b =
+    let one = (λ s i. ap (λ z. get_or table z (pos 0)) (at-once s i)) in
+    copied-more t width 0 old new table (λ s h i b. before s h i b ∙ sym (one s i))
+    (λ l b. here l (omega arith) ∙ sym (one t l))
+    (λ i b. other i (wider i b)) s h i b ∙ one s i
+  where
+    wider : (i : ℕ) → (i < t * width) ⊎ (t * width + width ≤ i) →
+        (i < t * width) ⊎ (t * width + length table ≤ i)
+    wider i (inl b) = inl b
+    wider i (inr b) = inr (omega arith)
 
 -- The layers from the last down: those from t on are done, the others are as at first.
 module _ (rest : List Order) (prices : List ℤ) (before after : ℕ → Bool) (colour layers width : ℕ)

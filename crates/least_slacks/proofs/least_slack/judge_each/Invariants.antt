@@ -1,17 +1,17 @@
-use Rattle.std.proofs.Common.{◌≡◌, ℕ, List, ◌<◌, ◌≤◌, get_or, length, pos, slice_index}
+use Rattle.std.proofs.Common.{◌≡◌, ℕ, List, ◌<◌, get_or, length, pos, slice_index}
 use Rattle.mill_model.specs.Prices.{least_slack}
 use Rattle.mill_model.specs.declared.order.Order.{Order}
 use Rattle.set_minima.specs.Joins.{IsSlab}
 use Rattle.set_minima.specs.Cells.{IsSmall}
-use Rattle.least_slacks.specs.Keys.{HasColours, IsMade, no_key}
+use Rattle.least_slacks.specs.Keys.{HasColours, IsJoined, no_key}
 use Rattle.least_slacks.specs.Limits.{mill_within}
-use Rattle.least_slacks.proofs.least_slack.fill_slacks.Given as goal
+use Rattle.least_slacks.proofs.least_slack.judge_each.Given as goal
 
 abbrev pub invariant-loop-i : goal.invariant-loop-i
 invariant-loop-i l = record {
-  made : IsMade l.later l.limits.most l.made l.layers l.one;
+  joined : IsJoined l.later l.limits.most l.joined l.one;
   done :
-      (j : ℕ) → l.i ≤ j → j < length l.keys → (own : List ℕ) →
+      (j : ℕ) → j < l.i → (own : List ℕ) →
       HasColours l.later.rest.now (get_or l.keys j no_key) own →
       (IsSmall 30000000000000 (get_or l.slacks j (pos 0))) ×
       ((group : List Order) → IsSlab group (get_or l.keys j no_key).load own →

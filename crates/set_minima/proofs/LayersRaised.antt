@@ -126,7 +126,8 @@ pub spread-more : (t width : ℕ) (old new table : List ℤ) → length table �
     (s : ℕ) → s < suc t → (i : ℕ) → i < width →
     get_or new (s * width + i) (pos 0) ≡ get_or table i (pos 0)
 spread-more t width old new table e before here other s h i b =
-    let one = (λ s i. ap (λ z. get_or table z (pos 0)) (at-once s i)) in
+    let one : (s i : ℕ) → get_or table (s * 0 + i) (pos 0) ≡ get_or table i (pos 0) =
+    (λ s i. ap (λ z. get_or table z (pos 0)) (at-once s i)) in
     copied-more t width 0 old new table (λ s h i b. before s h i b ∙ sym (one s i))
     (λ l b. here l (omega arith) ∙ sym (one t l))
     (λ i b. other i (wider i b)) s h i b ∙ one s i

@@ -5,4 +5,8 @@
 #[cfg(test)]
 mod deques;
 #[cfg(test)]
+mod paths;
+#[cfg(test)]
+mod together;
+#[cfg(test)]
 mod words;

@@ -1,18 +1,24 @@
-ghost use Rattle.std.specs.Prelude.{◌≡◌, ◌≤◌, ◌+◌, List, IfOk, length};
+ghost use Rattle.std.specs.Prelude.{◌≡◌, ◌<◌, ◌≤◌, ◌+◌, List, IfOk, length, true};
 ghost use Rattle.mill_model.specs.Charges.{Reaches, charge_of};
+ghost use Rattle.mill_model.specs.Instance.{mill_of};
+ghost use Rattle.mill_model.specs.Plan.{IsLegalPlan};
 ghost use Rattle.mill_model.specs.Rank.{rank};
 ghost use Rattle.mill_model.specs.declared.order.Order.{Order};
+ghost use Rattle.large_moves.specs.Coloured.{IsByColour, orders_of, plan_of};
 ghost use Rattle.large_moves.specs.Moved.{IsStart, IsWalked};
 
-use mill_model::{Charges, OutOfMemory, Start};
+use crate::by_colour::{by_colour, orders_alone, put_back, read_plan};
+use crate::coloured::Coloured;
+use mill_model::{Charges, Instance, OutOfMemory, Plan, Start};
 use order_symmetry::Ranked;
+use plan_walk::better_plan;
 use std::alloc::Global;
 
-/// Walks from a plan through others, some of which lose as much, and gives the best one that it
-/// met; the start itself where it met none that loses less.
+/// Walks from a plan through others, some of which lose as much, and gives the last one where it
+/// loses less than the start; else the start itself.
 ///
-/// The walk takes so many steps, and ends before at a plan that loses nothing. It draws the same
-/// numbers in each run.
+/// The walk takes so many steps, each of which lays a few slabs anew, by numbers that are the same
+/// in each run. It ends before where nothing is lost.
 pub fn walk(
     alloc: Global,
     ranked: &Ranked,
@@ -28,5 +34,32 @@ pub fn walk(
         IsWalked ranked.now.mill (charge_of charges.now) orders start walked) }
     ensures kept { IfOk result (λ walked. walked.loss ≡ start.loss → walked ≡ start) }
 {
-    Ok(start)
+    let coloured = by_colour(alloc, ranked)?;
+    let instance = instance_of(alloc, ranked, &coloured)?;
+    let plan = Plan::from_list(read_plan(alloc, &coloured, start.plan.slabs())?);
+    let Some(found) = better_plan(alloc, &instance, charges, &plan, start.loss, steps)? else {
+        return Ok(start);
+    };
+    let plan = put_back(alloc, &coloured, found.plan.slabs())?;
+    Ok(Start {
+        plan,
+        loss: found.loss,
+    })
+}
+
+// The orders by colour as an instance of its own, with the largest size alone.
+fn instance_of(
+    alloc: Global,
+    ranked: &Ranked,
+    coloured: &[Coloured],
+) -> Result<Instance, OutOfMemory>
+    requires { IsByColour ranked.now.placed coloured.now }
+    ensures orders { IfOk result (λ instance. instance.orders ≡ orders_of coloured.now) }
+    ensures mill { IfOk result (λ instance. mill_of instance ≡ ranked.now.mill) }
+{
+    let largest = ranked.largest();
+    let p = ranked.p();
+    let sizes = vec![in alloc; largest]?;
+    let orders = orders_alone(alloc, coloured)?;
+    Ok(Instance::new(sizes, 0, orders, p))
 }

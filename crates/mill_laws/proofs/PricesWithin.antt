@@ -232,7 +232,7 @@ module _ (mill : Mill) (charge : ℕ → ℕ) (ranked : List Order) (path : List
   module _ (ys : List ℤ) (slabs : (s : ℕ) → legal mill (slab s path ranked) ≡ true)
       (long : length ys ≡ length rest) (valid_before : valid mill charge rest ys ≡ true)
       (within : All IsPrice ys) where
-    sweep-within : (i : ℕ) → i ≤ length rest → All IsPrice (sweep mill charge ranked path ys i)
+    pub sweep-within : (i : ℕ) → i ≤ length rest → All IsPrice (sweep mill charge ranked path ys i)
     sweep-within zero l = within
     sweep-within (suc i) l =
         let before = sweep mill charge ranked path ys i in
@@ -245,7 +245,7 @@ module _ (mill : Mill) (charge : ℕ → ℕ) (ranked : List Order) (path : List
 
   -- The ascent.
   module _ (slabs : (s : ℕ) → legal mill (slab s path ranked) ≡ true) where
-    ascent-within : (i : ℕ) → i ≤ length rest → All IsPrice (ascent mill charge ranked path i)
+    pub ascent-within : (i : ℕ) → i ≤ length rest → All IsPrice (ascent mill charge ranked path i)
     ascent-within zero l = zeros-within (length rest)
       where
         zeros-within : (n : ℕ) → All IsPrice (replicate n (pos 0))

@@ -1,0 +1,4 @@
+pub mod LeastOfParts
+pub mod ValidByLeast
+pub mod ZeroEnds
+pub mod AtNode

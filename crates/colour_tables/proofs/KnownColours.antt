@@ -4,15 +4,14 @@ use Rattle.std.proofs.Common.{length, get_or, eqb, eqb-true, eq-eqb, refl, sym, 
 use Rattle.std.proofs.Common.{inl, inr, ne_eqb}
 use Rattle.list_laws.specs.Sets.{holds, different, below}
 use Rattle.mill_model.specs.declared.order.Order.{Order}
-use Rattle.list_laws.proofs.Tests.{either, or-cases, clash}
+use Rattle.list_laws.proofs.Tests.{or-cases, clash}
 use Rattle.list_laws.proofs.Different.{below-holds, holds-below-lt}
 use Rattle.set_minima.specs.Packs.{colour_at}
-use Rattle.colour_tables.specs.Threes.{but}
 use Rattle.colour_tables.specs.Owned.{IsOwn, IsHeld}
 use Rattle.colour_tables.specs.declared.slab.Own.TheVariants.{Bare, Free, One, Two, Full}
 use Rattle.colour_tables.proofs.ColoursPaid.{name-held, but-more}
 use Rattle.colour_tables.proofs.RowsFilled.{held-get}
-use Rattle.colour_tables.proofs.SlacksFromTables.{two-different, holds-first, holds-second}
+use Rattle.colour_tables.proofs.SlacksFromTables.{holds-first}
 
 list-one : (own : List ℕ) → length own ≡ 1 → own ≡ get_or own 0 0 ∷ []
 list-one [] h = absurd (omega arith)

@@ -1,11 +1,10 @@
 -- The stretches of sorted orders are the runs of the colours, each order once.
 use Rattle.std.proofs.Common.{ℕ, zero, suc, ◌+◌, ◌-◌, ◌<◌, ◌≤◌, ◌≡◌, ◌≢◌, Bool, true, false, not}
-use Rattle.std.proofs.Common.{◌&&◌, List, [], ◌∷◌, ◌++◌, map, length, get_or, take, drop, eqb}
+use Rattle.std.proofs.Common.{List, [], ◌∷◌, ◌++◌, map, length, get_or, take, drop, eqb}
 use Rattle.std.proofs.Common.{eqb-true, eq-eqb, ne_eqb, ℤ, pos, refl, sym, ap, ◌∙◌, subst, arith}
-use Rattle.std.proofs.Common.{inl, inr, rules}
+use Rattle.std.proofs.Common.{inl, inr}
 use Rattle.std.proofs.lemmas.Bool.{cases_lt}
 use Rattle.std.proofs.lemmas.Int.{ints}
-use Rattle.std.specs.List.{All}
 use Rattle.list_laws.specs.Sets.{holds, below}
 use Rattle.mill_model.specs.declared.order.Order.{Order}
 use Rattle.list_laws.proofs.Tests.{or-cases, or-left, or-right, and-left, and-right, equal-tests}
@@ -18,7 +17,7 @@ use Rattle.colour_tables.specs.Entries.{AreSmallAll}
 use Rattle.colour_tables.specs.Threes.{once}
 use Rattle.colour_tables.specs.Items.{IsItem, IsRun, AreSmall, item_at, no_item}
 use Rattle.colour_tables.specs.Items.{places}
-use Rattle.colour_tables.specs.Stretches.{coloured_at, stretch_at, IsByColour, IsStretch}
+use Rattle.colour_tables.specs.Stretches.{coloured_at, stretch_at, IsByColour}
 use Rattle.colour_tables.specs.Stretches.{AreStretches, AreColours, AreItems}
 use Rattle.colour_tables.specs.declared.by_colour.Coloured.{Coloured}
 use Rattle.colour_tables.specs.declared.items.Item.{Item}

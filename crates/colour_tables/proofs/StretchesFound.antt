@@ -1,5 +1,5 @@
 -- The stretches of the colours, found one after another.
-use Rattle.std.proofs.Common.{ℕ, zero, suc, ◌+◌, ◌<◌, ◌≤◌, ◌≡◌, ◌≢◌, List, [], ◌∷◌, ◌++◌, length, get_or}
+use Rattle.std.proofs.Common.{ℕ, zero, suc, ◌<◌, ◌≤◌, ◌≡◌, ◌≢◌, List, [], ◌∷◌, ◌++◌, length, get_or}
 use Rattle.std.proofs.Common.{refl, sym, ap, ◌∙◌, subst, arith, inl, inr}
 use Rattle.std.proofs.lemmas.Bool.{cases_lt}
 use Rattle.colour_tables.specs.Stretches.{coloured_at, stretch_at, IsStretch, AreStretches}
@@ -112,19 +112,18 @@ next-stretch sorted at end ends now e s run =
                 (subst (λ (z : ℕ × ℕ). (stretch_at ends c).1 ≤ z.0) (sym (last-at ends (at, end))) o)))
           ];
           reach = λ t h. elim (cases_lt t at) [
-            | inl b ↦ (let r = s.reach t b in
-                (
-                  r.0,
-                  (let l : r.0 < length ends = r.1 in omega arith),
-                  subst (λ (z : ℕ × ℕ). z.0 ≤ t) (sym (old-at ends (at, end) r.0 r.1)) r.2,
-                  subst (λ (z : ℕ × ℕ). t < z.1) (sym (old-at ends (at, end) r.0 r.1)) r.3,
-                ))
+            | inl b ↦ (let r = s.reach t b in (
+              r.0,
+              (let l : r.0 < length ends = r.1 in omega arith),
+              subst (λ (z : ℕ × ℕ). z.0 ≤ t) (sym (old-at ends (at, end) r.0 r.1)) r.2,
+              subst (λ (z : ℕ × ℕ). t < z.1) (sym (old-at ends (at, end) r.0 r.1)) r.3,
+            ))
             | inr b ↦ (
-                length ends,
-                omega arith,
-                subst (λ (z : ℕ × ℕ). z.0 ≤ t) (sym (last-at ends (at, end))) b,
-                subst (λ (z : ℕ × ℕ). t < z.1) (sym (last-at ends (at, end))) h,
-              )
+              length ends,
+              omega arith,
+              subst (λ (z : ℕ × ℕ). z.0 ≤ t) (sym (last-at ends (at, end))) b,
+              subst (λ (z : ℕ × ℕ). t < z.1) (sym (last-at ends (at, end))) h,
+            )
           ];
         }
 

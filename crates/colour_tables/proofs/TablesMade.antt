@@ -1,6 +1,6 @@
 -- Tables that are made of sorted orders: what of their sizes and runs the rows are filled from, and
 -- what they are once filled.
-use Rattle.std.proofs.Common.{ℕ, ◌+◌, ◌<◌, ◌≤◌, ◌≡◌, true, List, map, length, get_or, ℤ, sym, ap, ◌∙◌, subst, arith}
+use Rattle.std.proofs.Common.{ℕ, ◌<◌, ◌≤◌, ◌≡◌, true, List, map, length, get_or, ℤ, sym, ap, ◌∙◌, subst, arith}
 use Rattle.std.specs.List.{All}
 use Rattle.list_laws.specs.Sets.{holds, below}
 use Rattle.list_laws.proofs.Different.{holds-below-lt}
@@ -13,7 +13,6 @@ use Rattle.colour_tables.specs.Threes.{once}
 use Rattle.colour_tables.specs.Stretches.{IsByColour, AreStretches, AreColours, AreItems}
 use Rattle.colour_tables.specs.Owned.{AreRuns, AreRunsSafe}
 use Rattle.colour_tables.specs.declared.by_colour.Coloured.{Coloured}
-use Rattle.colour_tables.specs.declared.items.Item.{Item}
 use Rattle.colour_tables.specs.declared.slabs.Runs.{Runs}
 use Rattle.colour_tables.proofs.ColoursPaid.{once-names}
 use Rattle.colour_tables.proofs.RowsLaidOut.{all-small}

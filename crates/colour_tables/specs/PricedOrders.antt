@@ -1,10 +1,10 @@
 -- Orders to come with their prices, as clauses see the tables of their sets; and what a slab and an
 -- order in its turn are to these tables.
-use Rattle.std.specs.Prelude.{ℕ, ◌+◌, ◌<◌, ◌≤◌, ◌≡◌, true, List, map, length, ℤ, slice_index_or}
+use Rattle.std.specs.Prelude.{ℕ, ◌+◌, ◌≤◌, ◌≡◌, true, List, length, ℤ, slice_index_or}
 use Rattle.list_laws.specs.Sets.{holds, below}
 use Rattle.mill_model.specs.Charges.{ChargeTable, charge_of}
 use Rattle.mill_model.specs.declared.order.Order.{Order}
-use Rattle.set_minima.specs.Packs.{colour_at, nobody}
+use Rattle.set_minima.specs.Packs.{nobody}
 use Rattle.set_minima.specs.Joins.{IsSlab}
 use Rattle.set_minima.specs.Cells.{AreNear}
 use Rattle.colour_tables.specs.Entries.{AreSmallAll}

@@ -85,7 +85,11 @@ impl<'a> ColourTables<'a> {
     {
         let rest = self.rest;
         let weight = rest[turn.place].weight as usize;
-        slabs::least_new_with(&self.paid[weight..], &turn.beside, self.largest - weight + 1)
+        slabs::least_new_with(
+            &self.paid[weight..],
+            &turn.beside,
+            self.largest - weight + 1,
+        )
     }
 
     /// The least slack of a slab over all sets that may join it and hold the order in its turn,
@@ -178,6 +182,7 @@ impl<'a> ColourTables<'a> {
         let at = self.runs.position(turn.colour, turn.place);
         self.prices[turn.place] = price;
         self.runs.set_price(at, price);
-        self.rows.set_price(&mut turn.alone, turn.colour, weight, price);
+        self.rows
+            .set_price(&mut turn.alone, turn.colour, weight, price);
     }
 }

@@ -1,4 +1,4 @@
-use Rattle.std.proofs.Common.{ℕ, suc, ◌≡◌, ◌+◌, ◌++◌, ◌∷◌, [], ap, ◌∙◌, subst, arith, rules}
+use Rattle.std.proofs.Common.{suc, ◌≡◌, ◌+◌, ◌++◌, ◌∷◌, [], ap, ◌∙◌, subst, arith, rules}
 use Rattle.list_laws.specs.Sets.{below}
 use Rattle.colour_tables.proofs.tables_made.numbers.Goals as goal
 

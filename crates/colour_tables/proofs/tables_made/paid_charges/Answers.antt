@@ -1,8 +1,7 @@
-use Rattle.std.proofs.Common.{ℕ, ℤ, ◌≡◌, ◌≤◌, ◌<◌, ◌+◌, ◌*◌, ◌++◌, ◌∷◌, [], ◌∙◌, sym, subst, length, pos, ap, arith, rules}
+use Rattle.std.proofs.Common.{ℤ, ◌≡◌, ◌+◌, ◌*◌, ◌++◌, ◌∷◌, [], ◌∙◌, pos, ap, arith, rules}
 use Rattle.std.proofs.lemmas.Int.{ints}
 use Rattle.mill_model.specs.Charges.{charge_of}
 use Rattle.set_minima.specs.Cells.{IsSmall}
-use Rattle.colour_tables.specs.Entries.{entry}
 use Rattle.colour_tables.proofs.RowsLaidOut.{each-push, all-small}
 use Rattle.colour_tables.proofs.tables_made.paid_charges.Goals as goal
 

@@ -1,4 +1,4 @@
-use Rattle.std.proofs.Common.{ℕ, ◌≡◌, ◌<◌, ◌≤◌, true, false, List, map, length, get_or, refl, sym, subst, arith, rules, Some, None}
+use Rattle.std.proofs.Common.{ℕ, ◌≡◌, ◌<◌, true, false, map, length, get_or, refl, subst, rules, Some, None}
 use Rattle.list_laws.specs.Sets.{holds, below}
 use Rattle.list_laws.proofs.Different.{below-holds}
 use Rattle.set_minima.specs.Packs.{colour_at}

@@ -1,14 +1,13 @@
-use Rattle.std.proofs.Common.{ℕ, ℤ, ◌<◌, ◌∷◌, [], ◌≡◌, ◌∙◌, true, List, get_or, length, set, map, refl, ◌+◌, sym, ap, subst, arith, SFits}
+use Rattle.std.proofs.Common.{◌<◌, ◌∷◌, [], ◌≡◌, ◌∙◌, true, get_or, length, set, refl, ◌+◌, sym, ap, subst, arith, SFits}
 use Rattle.std.proofs.Common.{w64, to_z-of_z, rules}
-use Rattle.list_laws.specs.Sets.{holds, below}
-use Rattle.set_minima.specs.Packs.{IsTable, colour_at}
-use Rattle.set_minima.specs.Cells.{cell}
+use Rattle.list_laws.specs.Sets.{holds}
+use Rattle.set_minima.specs.Packs.{colour_at}
 use Rattle.colour_tables.specs.Threes.{once}
 use Rattle.colour_tables.specs.Items.{item_at}
 use Rattle.colour_tables.specs.Colours.{but_order}
 use Rattle.colour_tables.specs.Owned.{AreRuns, IsFound}
 use Rattle.colour_tables.specs.Rowed.{AreRows}
-use Rattle.colour_tables.specs.PricedOrders.{PricedOrders, AreTables, IsTurnOf}
+use Rattle.colour_tables.specs.PricedOrders.{PricedOrders, IsTurnOf}
 use Rattle.colour_tables.proofs.PricesSet.{small-set}
 use Rattle.colour_tables.proofs.TurnTables.{front-of}
 use Rattle.colour_tables.proofs.tables.ColourTables.set_price.Goals as goal

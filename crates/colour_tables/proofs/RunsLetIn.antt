@@ -1,6 +1,7 @@
 -- Runs of items: what one item more lets in, and what a whole run does.
 use Rattle.std.proofs.Common.{ℕ, zero, suc, ◌+◌, ◌<◌, ◌≤◌, ◌≡◌, ◌≢◌, ◌⊎◌, Bool, true, false, not}
-use Rattle.std.proofs.Common.{◌&&◌, ◌||◌, List, [], ◌∷◌, ◌++◌, length, get_or, take, eqb, eq-eqb, ne_eqb}
+use Rattle.std.proofs.Common.{◌&&◌, ◌||◌, List, [], ◌∷◌, ◌++◌, length, get_or, take, eqb, eq-eqb}
+use Rattle.std.proofs.Common.{ne_eqb}
 use Rattle.std.proofs.Common.{eqb-true, ℤ, pos, Option, refl, sym, ap, ◌∙◌}
 use Rattle.std.proofs.Common.{subst, arith, inl, inr}
 use Rattle.std.proofs.lemmas.List.{take_all}
@@ -76,7 +77,8 @@ module _ (before : ℕ → Bool) (run : List Item) (skip t : ℕ) (here : t < le
   abbrev p : ℕ
   p = (item_at run t).place
 
-  later : (i : ℕ) → holds i (places (take t run)) ≡ true → holds i (places (take (suc t) run)) ≡ true
+  later : (i : ℕ) → holds i (places (take t run)) ≡ true → holds i (places (take (suc t) run)) ≡
+      true
   later i h = holds-last run t i here ∙ or-left (holds i (places (take t run))) _ h
 
   let-kept : (i : ℕ) → let_in before run skip t i ≡ true → let_in before run skip (suc t) i ≡ true

@@ -22,5 +22,9 @@ loop-c-preserved c =
 
 pub returns : goal.returns
 returns c =
-    let e : c.loop-c.c ≡ c.args.count = omega (arith, c.loop-c.invariant.inside, c.loop-c-test.false) in
+    let e : c.loop-c.c ≡ c.args.count = omega (
+      arith,
+      c.loop-c.invariant.inside,
+      c.loop-c-test.false,
+    ) in
     subst (λ n. c.loop-c.numbers.items ≡ below n) e c.loop-c.invariant.is

@@ -21,8 +21,14 @@ loop-load-preserved c =
       small =
           each-push (λ k z. IsSmall 20000000000 z) c.loop-load.paid.items c.push.new.self.items
           (pos (60 * c.charge.result)) c.loop-load.load e c.loop-load.invariant.count
-          c.loop-load.invariant.small
-          (omega (arith, ints, c.charge.ensures.limit), omega (arith, ints, c.charge.ensures.limit));
+          c.loop-load.invariant.small (
+            omega (arith, ints, c.charge.ensures.limit),
+            omega (
+              arith,
+              ints,
+              c.charge.ensures.limit,
+            ),
+          );
     }
 
 pub returns-clause-is : goal.returns-clause-is

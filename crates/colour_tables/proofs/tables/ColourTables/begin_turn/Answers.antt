@@ -1,4 +1,5 @@
-use Rattle.std.proofs.Common.{ℕ, ◌≡◌, ◌∙◌, ◌+◌, ◌<◌, true, false, map, length, get_or, refl, sym, ap, subst, rules}
+use Rattle.std.proofs.Common.{ℕ, ◌≡◌, ◌∙◌, ◌+◌, ◌<◌, true, false, map, length, get_or, refl, sym}
+use Rattle.std.proofs.Common.{ap, subst, rules}
 use Rattle.std.proofs.Common.{eqb, eq-eqb}
 use Rattle.std.proofs.lemmas.List.{with_items_is}
 use Rattle.list_laws.specs.Sets.{holds}

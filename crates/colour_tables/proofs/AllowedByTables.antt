@@ -1,5 +1,6 @@
 -- Which orders the tables allow, once the run of a colour is let in.
-use Rattle.std.proofs.Common.{ℕ, ◌<◌, ◌≤◌, ◌≡◌, ◌≢◌, Bool, true, false, not, ◌&&◌, ◌||◌, List, [], ◌∷◌, map, length, eqb, eqb-true, eq-eqb, ne_eqb}
+use Rattle.std.proofs.Common.{ℕ, ◌<◌, ◌≤◌, ◌≡◌, ◌≢◌, Bool, true, false, not, ◌&&◌, ◌||◌, List, []}
+use Rattle.std.proofs.Common.{◌∷◌, map, length, eqb, eqb-true, eq-eqb, ne_eqb}
 use Rattle.std.proofs.Common.{refl, sym, ap, ◌∙◌, subst, arith, inl, inr}
 use Rattle.list_laws.specs.Sets.{holds, different}
 use Rattle.mill_model.specs.declared.order.Order.{Order}
@@ -13,11 +14,32 @@ use Rattle.list_laws.proofs.Tests.{clash}
 use Rattle.colour_tables.specs.Threes.{once, but}
 use Rattle.colour_tables.specs.Colours.{of_colour, of_colours, but_order, IsUnion}
 use Rattle.colour_tables.specs.Rowed.{apart_from}
-use Rattle.colour_tables.proofs.ColoursPaid.{but-less, but-more, but-other, but-rest, but-once, same-name}
+use Rattle.colour_tables.proofs.ColoursPaid.{but-less, but-more, but-other, but-rest, but-once}
+use Rattle.colour_tables.proofs.ColoursPaid.{same-name}
 
 not-of : (b : Bool) → b ≡ false → not b ≡ true
 not-of true h = absurd (clash true refl h)
 not-of false h = refl
+
+-- a list with two different numbers has no third
+pub third-colour : (x d c : ℕ) (own : List ℕ) → different own ≡ 2 → eqb x d ≡ false →
+    eqb x c ≡ false → d ≢ c → holds x own ≡ true → holds d own ≡ true →
+    holds c own ≡ true → ⊥
+third-colour x d c own n q r a hx hd hc =
+    let m : different (x ∷ d ∷ c ∷ []) ≤ different own =
+    different-mono (x ∷ d ∷ c ∷ []) own (λ y g. elim (or-cases (eqb y x) _ g) [
+      | inl e ↦ subst (λ z. holds z own ≡ true) (sym (eqb-true y x e)) hx
+      | inr g ↦ elim (or-cases (eqb y d) _ g) [
+        | inl e ↦ subst (λ z. holds z own ≡ true) (sym (eqb-true y d e)) hd
+        | inr g ↦ elim (or-cases (eqb y c) false g) [
+          | inl e ↦ subst (λ z. holds z own ≡ true) (sym (eqb-true y c e)) hc
+          | inr f ↦ absurd (clash false f refl)
+        ]
+      ]
+    ]) in
+    let p : eqb d c ≡ false = ne_eqb d c a in
+    let t : different (x ∷ d ∷ c ∷ []) ≡ 3 = rw (q, r, p) refl in
+    absurd (omega arith)
 
 and-of : (a b : Bool) → a ≡ true → b ≡ true → (a && b) ≡ true
 and-of true b h k = k
@@ -167,28 +189,10 @@ module _ (rest : List Order) (name : ℕ → ℕ) (cs : List ℕ) (o : once (map
           | inl q ↦ or-left (of_colour rest (name d) i) _ q
           | inr q ↦ elim (either (eqb (colour_at rest i) (name c))) [
             | inl r ↦ or-right (of_colour rest (name d) i) _ (and-of _ _ r a)
-            | inr r ↦ absurd (third-colour (colour_at rest i) (name d) (name c) own n q r apart e k h)
+            | inr r ↦ absurd (third-colour (colour_at rest i) (name d) (name c) own n q r apart e k
+                h)
           ]
         ]
-      where
-        third-colour : (x d c : ℕ) (own : List ℕ) → different own ≡ 2 → eqb x d ≡ false →
-            eqb x c ≡ false → d ≢ c → holds x own ≡ true → holds d own ≡ true →
-            holds c own ≡ true → ⊥
-        third-colour x d c own n q r a hx hd hc =
-            let m : different (x ∷ d ∷ c ∷ []) ≤ different own =
-            different-mono (x ∷ d ∷ c ∷ []) own (λ y g. elim (or-cases (eqb y x) _ g) [
-              | inl e ↦ subst (λ z. holds z own ≡ true) (sym (eqb-true y x e)) hx
-              | inr g ↦ elim (or-cases (eqb y d) _ g) [
-                | inl e ↦ subst (λ z. holds z own ≡ true) (sym (eqb-true y d e)) hd
-                | inr g ↦ elim (or-cases (eqb y c) false g) [
-                  | inl e ↦ subst (λ z. holds z own ≡ true) (sym (eqb-true y c e)) hc
-                  | inr f ↦ absurd (clash false f refl)
-                ]
-              ]
-            ]) in
-            let p : eqb d c ≡ false = ne_eqb d c a in
-            let t : different (x ∷ d ∷ c ∷ []) ≡ 3 = rw (q, r, p) refl in
-            absurd (omega arith)
 
 -- a row alone
 pub row-own : (rest : List Order) (x : ℕ) (own : List ℕ) → holds x own ≡ true → (i : ℕ) →

@@ -1,6 +1,8 @@
 -- What the tables of the rows are, once a colour is paid for.
-use Rattle.std.proofs.Common.{ℕ, zero, suc, ◌<◌, ◌≤◌, ◌≡◌, Bool, true, false, not, ◌&&◌, List, [], ◌∷◌}
-use Rattle.std.proofs.Common.{◌++◌, map, take, length, set, ℤ, pos, ◌+ℤ◌, ◌≤ℤ◌, Option, eqb, eqb-true, eq-eqb, ne_eqb}
+use Rattle.std.proofs.Common.{ℕ, zero, suc, ◌<◌, ◌≤◌, ◌≡◌, Bool, true, false, not, ◌&&◌, List, []}
+use Rattle.std.proofs.Common.{◌∷◌}
+use Rattle.std.proofs.Common.{◌++◌, map, take, length, set, ℤ, pos, ◌+ℤ◌, ◌≤ℤ◌, Option, eqb}
+use Rattle.std.proofs.Common.{eqb-true, eq-eqb, ne_eqb}
 use Rattle.std.proofs.Common.{refl, sym, ap, ◌∙◌, subst, arith, inl, inr}
 use Rattle.std.proofs.lemmas.List.{get_or-take}
 use Rattle.std.specs.Int.{int_max}
@@ -21,7 +23,8 @@ use Rattle.colour_tables.specs.Entries.{entry}
 use Rattle.colour_tables.specs.Threes.{insert, three, but, once, IsButOne, IsButTwo, column}
 use Rattle.colour_tables.specs.Colours.{of_colour, of_colours, IsUnion}
 use Rattle.set_minima.proofs.CellNumbers.{found-max}
-use Rattle.colour_tables.proofs.ThreeGreatest.{three-front, three-sorted, but-holds, one-out, two-out}
+use Rattle.colour_tables.proofs.ThreeGreatest.{three-front, three-sorted, but-holds, one-out}
+use Rattle.colour_tables.proofs.ThreeGreatest.{two-out}
 use Rattle.colour_tables.proofs.ColoursUnited.{inside, best-union, best-of-colours, load-zero}
 use Rattle.colour_tables.proofs.RunsLetIn.{not-true}
 

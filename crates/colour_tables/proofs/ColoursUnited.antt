@@ -58,7 +58,8 @@ module _ (rest : List Order) (A B C : ℕ → Bool) (c : ℕ) (u : IsUnion rest 
         let s : colour_at rest i ≡ c =
         one-alike (colour_at rest i) c (colours_in m rest) p.few (place-colour i m rest e b) h in
         elim (u.only i b (p.fine i e)) [
-          | inl a ↦ absurd (clash (eqb (colour_at rest i) c) (eq-eqb (colour_at rest i) c s) (u.new i b a))
+          | inl a ↦ absurd (clash (eqb (colour_at rest i) c) (eq-eqb (colour_at rest i) c s) (u.new
+              i b a))
           | inr a ↦ a
         ];
     few = rw h p.few;
@@ -113,14 +114,16 @@ light-empty : (i : ℕ) (m : List Bool) (rest : List Order) → AreOrders rest �
 light-empty i m rest w b e =
     let s : i < length m = in-set-below i m e in
     let o : 0 < (get_or rest i nobody).weight = w i b in
-    let q : load (chosen m rest) ≡ (get_or rest i nobody).weight + load (chosen (set m i false) rest) =
+    let q : load (chosen m rest) ≡ (get_or rest i nobody).weight + load (chosen (set m i false)
+    rest) =
     ap (λ z. load (chosen z rest)) (sym (marked i m e)) ∙ load-place i m rest s b in
     omega arith
 
 pub load-zero : (rest : List Order) → AreOrders rest → (A : ℕ → Bool) (own : List ℕ) (k : ℕ)
     (prices : List ℤ) → different own ≤ k → IsBest A own k rest prices 0 (Some (pos 0))
 load-zero rest w A own k prices h =
-    top-same (Packs (λ i. false) own k rest 0) (Packs A own k rest 0) (λ m. int_sum (chosen m prices))
+    top-same (Packs (λ i. false) own k rest 0) (Packs A own k rest 0) (λ m. int_sum (chosen m
+    prices))
     (Some (pos 0))
     (λ m p. record {
       long = p.long;

@@ -1,5 +1,6 @@
 -- Rows of one width one after another in a flat list.
-use Rattle.std.proofs.Common.{ℕ, suc, ◌+◌, ◌*◌, ◌<◌, ◌≤◌, ◌≡◌, ◌≢◌, List, [], ◌∷◌, length, set, ℤ, true, false, eqb, not}
+use Rattle.std.proofs.Common.{ℕ, suc, ◌+◌, ◌*◌, ◌<◌, ◌≤◌, ◌≡◌, ◌≢◌, List, [], ◌∷◌, length, set, ℤ}
+use Rattle.std.proofs.Common.{true, false, eqb, not}
 use Rattle.std.proofs.Common.{get_or, refl, sym, ap, ◌∙◌, subst, arith, inl, inr, eqb-true, eq-eqb}
 use Rattle.std.proofs.lemmas.Bool.{cases_lt}
 use Rattle.std.proofs.Math.Nat.{mul-le-mul_right}
@@ -7,7 +8,8 @@ use Rattle.list_laws.specs.Sets.{holds}
 use Rattle.list_laws.proofs.Tests.{or-cases}
 use Rattle.list_laws.proofs.Tests.{and-left}
 use Rattle.list_laws.proofs.Tests.{clash}
-use Rattle.colour_tables.specs.Threes.{Three, IsSorted, insert, three, but, once, row_entry, AreWithin}
+use Rattle.colour_tables.specs.Threes.{Three, IsSorted, insert, three, but, once, row_entry}
+use Rattle.colour_tables.specs.Threes.{AreWithin}
 use Rattle.colour_tables.proofs.ThreeGreatest.{three-front, three-same, three-sorted, but-holds}
 use Rattle.colour_tables.proofs.LoadsWritten.{set-same, set-other}
 use Rattle.colour_tables.proofs.RunsLetIn.{not-true}

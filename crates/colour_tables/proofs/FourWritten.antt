@@ -1,5 +1,6 @@
 -- Four numbers of a list that are written one after another, and the front of a list.
-use Rattle.std.proofs.Common.{ℕ, ◌+◌, ◌-◌, ◌*◌, true, cond, leb, le-leb, ap₂, ◌<◌, ◌≤◌, ◌≡◌, ◌≢◌, ◌⊎◌, List, ◌++◌, length, take, drop, get_or, set, ℤ, pos}
+use Rattle.std.proofs.Common.{ℕ, ◌+◌, ◌-◌, ◌*◌, true, cond, leb, le-leb, ap₂, ◌<◌, ◌≤◌, ◌≡◌, ◌≢◌}
+use Rattle.std.proofs.Common.{◌⊎◌, List, ◌++◌, length, take, drop, get_or, set, ℤ, pos}
 use Rattle.std.proofs.Common.{refl, sym, ap, ◌∙◌, subst, arith, rules, inl, inr}
 use Rattle.std.proofs.lemmas.List.{length-set, places, get_or-take, get_or_past, length-take-le}
 use Rattle.std.proofs.lemmas.Bool.{cases_lt}

@@ -1,6 +1,6 @@
 -- The item of an order among those of its colour.
-use Rattle.std.proofs.Common.{ℕ, ◌+◌, ◌-◌, ◌<◌, ◌≤◌, ◌≡◌, ◌≢◌, true, List, length, take, drop}
-use Rattle.std.proofs.Common.{get_or, eqb, eq-eqb, ℤ, sym, ap, ◌∙◌, subst, arith}
+use Rattle.std.proofs.Common.{ℕ, ◌+◌, ◌-◌, ◌<◌, ◌≤◌, ◌≡◌, ◌≢◌, true, List, length}
+use Rattle.std.proofs.Common.{get_or, eq-eqb, ℤ, sym, ap, ◌∙◌, arith}
 use Rattle.list_laws.specs.Sets.{holds}
 use Rattle.mill_model.specs.declared.order.Order.{Order}
 use Rattle.set_minima.specs.Packs.{colour_at}

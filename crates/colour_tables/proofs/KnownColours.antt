@@ -1,18 +1,19 @@
 -- The colours of a slab by their numbers among the colours to come.
-use Rattle.std.proofs.Common.{ℕ, zero, suc, ◌<◌, ◌≤◌, ◌≡◌, ◌≢◌, ◌⊎◌, Bool, true, false, List, [], ◌∷◌, map}
-use Rattle.std.proofs.Common.{length, get_or, eqb, eqb-true, eq-eqb, refl, sym, ap, ◌∙◌, subst, arith}
+use Rattle.std.proofs.Common.{ℕ, zero, suc, ◌<◌, ◌≤◌, ◌≡◌, ◌≢◌, ◌⊎◌, Bool, true, false, List, []}
+use Rattle.std.proofs.Common.{◌∷◌, map}
+use Rattle.std.proofs.Common.{length, get_or, eqb, eqb-true, eq-eqb, refl, sym, ap, ◌∙◌, subst}
+use Rattle.std.proofs.Common.{arith}
 use Rattle.std.proofs.Common.{inl, inr, ne_eqb}
 use Rattle.list_laws.specs.Sets.{holds, different, below}
 use Rattle.mill_model.specs.declared.order.Order.{Order}
-use Rattle.list_laws.proofs.Tests.{either, or-cases, clash}
+use Rattle.list_laws.proofs.Tests.{or-cases, clash}
 use Rattle.list_laws.proofs.Different.{below-holds, holds-below-lt}
 use Rattle.set_minima.specs.Packs.{colour_at}
-use Rattle.colour_tables.specs.Threes.{but}
 use Rattle.colour_tables.specs.Owned.{IsOwn, IsHeld}
 use Rattle.colour_tables.specs.declared.slab.Own.TheVariants.{Bare, Free, One, Two, Full}
 use Rattle.colour_tables.proofs.ColoursPaid.{name-held, but-more}
 use Rattle.colour_tables.proofs.RowsFilled.{held-get}
-use Rattle.colour_tables.proofs.SlacksFromTables.{two-different, holds-first, holds-second}
+use Rattle.colour_tables.proofs.SlacksFromTables.{holds-first}
 
 list-one : (own : List ℕ) → length own ≡ 1 → own ≡ get_or own 0 0 ∷ []
 list-one [] h = absurd (omega arith)
@@ -85,13 +86,14 @@ module _ (rest : List Order) (colours : List ℕ)
     has-second = held-get 1 own (omega arith)
 
     one-of : (x : ℕ) → holds x own ≡ true → (x ≡ a) ⊎ (x ≡ b)
-    one-of x h = elim (or-cases (eqb x a) (holds x (b ∷ [])) (subst (λ z. holds x z ≡ true) (list-two own n) h)) [
-      | inl e ↦ inl (eqb-true x a e)
-      | inr k ↦ elim (or-cases (eqb x b) false k) [
-        | inl e ↦ inr (eqb-true x b e)
-        | inr f ↦ absurd (clash false f refl)
-      ]
-    ]
+    one-of x h = elim (or-cases (eqb x a) (holds x (b ∷ [])) (subst (λ z. holds x z ≡ true)
+        (list-two own n) h)) [
+          | inl e ↦ inl (eqb-true x a e)
+          | inr k ↦ elim (or-cases (eqb x b) false k) [
+            | inl e ↦ inr (eqb-true x b e)
+            | inr f ↦ absurd (clash false f refl)
+          ]
+        ]
 
     other-of : (x : ℕ) → holds x own ≡ true → (x ≡ b) ⊎ (x ≡ a)
     other-of x h = elim (one-of x h) [ inl e ↦ inr e | inr e ↦ inl e ]

@@ -34,6 +34,20 @@ found-least n p a c t h k s =
 pub less-fits : (c t : ℤ) → IsSmall 20000000000 c → IsNear 200000000000000000 t →
     SFits w64 (c -ℤ t)
 less-fits c t s (inl k) =
-    fits-64 (c -ℤ t) (omega (arith, ints, k.0, k.1, s.0, s.1)) (omega (arith, ints, k.0, k.1, s.0, s.1))
+    fits-64 (c -ℤ t) (omega (arith, ints, k.0, k.1, s.0, s.1)) (omega (
+      arith,
+      ints,
+      k.0,
+      k.1,
+      s.0,
+      s.1,
+    ))
 less-fits c t s (inr k) =
-    fits-64 (c -ℤ t) (omega (arith, ints, k.0, k.1, s.0, s.1)) (omega (arith, ints, k.0, k.1, s.0, s.1))
+    fits-64 (c -ℤ t) (omega (arith, ints, k.0, k.1, s.0, s.1)) (omega (
+      arith,
+      ints,
+      k.0,
+      k.1,
+      s.0,
+      s.1,
+    ))

@@ -26,3 +26,4 @@ pub mod RowsLaidOut
 pub mod PricesSet
 pub mod TurnTables
 pub mod TablesMade
+pub mod CannotJoin

@@ -1,5 +1,7 @@
 -- The sets that may make a new slab: the empty one, and those with some colour.
-use Rattle.std.proofs.Common.{ℕ, ◌+◌, ◌*◌, ◌<◌, ◌≤◌, ◌≡◌, Bool, true, false, List, [], ◌∷◌, length, map, take, get_or, ℤ, pos, ◌+ℤ◌, neg_ℤ, Some, None, eqb, eqb-true, eq-eqb, int_lt}
+use Rattle.std.proofs.Common.{ℕ, ◌+◌, ◌*◌, ◌<◌, ◌≤◌, ◌≡◌, Bool, true, false, List, [], ◌∷◌, length}
+use Rattle.std.proofs.Common.{map, take, get_or, ℤ, pos, ◌+ℤ◌, neg_ℤ, Some, None, eqb, eqb-true}
+use Rattle.std.proofs.Common.{eq-eqb, int_lt}
 use Rattle.std.proofs.Common.{refl, sym, ap, ◌∙◌, subst, arith, inl, inr}
 use Rattle.std.proofs.lemmas.Int.{ints}
 use Rattle.std.specs.Int.{int_min, int_max}
@@ -52,7 +54,8 @@ module _ (rest : List Order) (prices : List ℤ) (name : ℕ → ℕ) (charge : 
       (subst (λ z. IsTop (Packed all_places [] 2 rest 0 1) (gain charge 0 rest prices)
       (found (neg_ℤ z))) (sym e)
       (subst (λ z. IsTop (Packed all_places [] 2 rest 0 1) (gain charge 0 rest prices) z)
-      (small-found (60 * charge (0 + 0)) (few (60 * charge (0 + 0)) (subst (IsSmall 20000000000) e s)))
+      (small-found (60 * charge (0 + 0)) (few (60 * charge (0 + 0)) (subst (IsSmall 20000000000) e
+      s)))
       (gain-more all_places [] 2 rest prices charge 0 0 0 (omega arith) None (Some (pos 0))
       (neg_ℤ (pos (60 * charge (0 + 0)))) refl
       (gain-none all_places [] 2 rest prices charge 0 0 0 (omega arith))
@@ -160,7 +163,8 @@ module _ (rest : List Order) (prices : List ℤ) (name : ℕ → ℕ) (charge : 
               no-load (o ∷ os) e = absurd (cc)
           go (y ∷ ys) e =
               let h : holds y (colours_in m rest) ≡ true =
-              subst (λ z. holds y z ≡ true) (sym e) (or-left (eqb y y) (holds y ys) (eq-eqb y y refl))
+              subst (λ z. holds y z ≡ true) (sym e) (or-left (eqb y y) (holds y ys) (eq-eqb y y
+              refl))
               in
               let r = colour-place y m rest h in
               let k = name-held name y cs (subst (λ z. holds z (map name cs) ≡ true) r.3
@@ -274,7 +278,8 @@ module _ (rest : List Order) (prices : List ℤ) (name : ℕ → ℕ) (charge : 
               let a : 1 ≤ load (chosen m rest) = q.above in absurd (omega arith)
           go (y ∷ ys) e =
               let h : holds y (colours_in m rest) ≡ true =
-              subst (λ z. holds y z ≡ true) (sym e) (or-left (eqb y y) (holds y ys) (eq-eqb y y refl))
+              subst (λ z. holds y z ≡ true) (sym e) (or-left (eqb y y) (holds y ys) (eq-eqb y y
+              refl))
               in
               let r = colour-place y m rest h in
               let k = name-held name y cs (subst (λ z. holds z (map name cs) ≡ true) r.3

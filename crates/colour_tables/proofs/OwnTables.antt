@@ -1,5 +1,6 @@
 -- The least over the tables of a slab's own colours.
-use Rattle.std.proofs.Common.{ℕ, ◌<◌, ◌≤◌, ◌≡◌, Bool, true, false, not, List, [], ◌∷◌, length, map, take, ℤ, pos, Option, eqb}
+use Rattle.std.proofs.Common.{ℕ, ◌<◌, ◌≤◌, ◌≡◌, Bool, true, false, not, List, [], ◌∷◌, length, map}
+use Rattle.std.proofs.Common.{take, ℤ, pos, Option, eqb}
 use Rattle.std.proofs.Common.{refl, sym, ap, subst, arith, zero, suc, Some, None}
 use Rattle.std.proofs.lemmas.List.{get_or-take, length-take-le}
 use Rattle.list_laws.specs.Sets.{holds, different}

@@ -1,5 +1,5 @@
 -- Prices of which one is set anew are as small as before.
-use Rattle.std.proofs.Common.{ℕ, zero, suc, refl, ap, ◌<◌, ◌≤◌, ◌≡◌, List, [], ◌∷◌, length, set, ℤ, pos, eqb}
+use Rattle.std.proofs.Common.{ℕ, zero, suc, refl, ap, ◌≤◌, ◌≡◌, List, [], ◌∷◌, length, set, ℤ, eqb}
 use Rattle.std.proofs.Common.{eqb-true, sym, subst, arith, inl, inr}
 use Rattle.std.proofs.lemmas.Bool.{cases_lt}
 use Rattle.list_laws.proofs.Tests.{either}

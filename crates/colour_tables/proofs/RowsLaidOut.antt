@@ -1,6 +1,7 @@
 -- Room for rows of one width one after another, and numbers that are pushed one by one.
-use Rattle.std.proofs.Common.{ℕ, zero, suc, ◌+◌, ◌*◌, ◌<◌, ◌≤◌, ◌≡◌, ◌⊎◌, List, [], ◌∷◌, ◌++◌}
-use Rattle.std.proofs.Common.{length, get_or, replicate, ℤ, pos, refl, sym, ap, ◌∙◌, subst, arith, inl, inr}
+use Rattle.std.proofs.Common.{ℕ, zero, suc, ◌+◌, ◌*◌, ◌<◌, ◌≤◌, ◌≡◌, List, [], ◌∷◌, ◌++◌}
+use Rattle.std.proofs.Common.{length, get_or, replicate, ℤ, pos, refl, sym, ap, ◌∙◌, subst, arith}
+use Rattle.std.proofs.Common.{inl, inr}
 use Rattle.std.proofs.lemmas.Bool.{cases_lt}
 use Rattle.std.proofs.lemmas.Int.{ints}
 use Rattle.std.proofs.Math.Nat.{mul-le-mul_right}
@@ -74,7 +75,13 @@ pub all-small : (xs : List ℤ) → ((k : ℕ) → k < length xs → IsSmall 200
     AreSmallAll xs
 all-small xs h l = elim (cases_lt l (length xs)) [
   | inl b ↦ h l b
-  | inr b ↦ subst (IsSmall 20000000000) (sym (past xs l b)) (omega (arith, ints), omega (arith, ints))
+  | inr b ↦ subst (IsSmall 20000000000) (sym (past xs l b)) (
+    omega (arith, ints),
+    omega (
+      arith,
+      ints,
+    ),
+  )
 ]
   where
     past : (xs : List ℤ) (l : ℕ) → length xs ≤ l → entry xs l ≡ pos 0

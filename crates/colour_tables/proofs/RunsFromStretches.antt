@@ -1,11 +1,10 @@
 -- The stretches of sorted orders are the runs of the colours, each order once.
 use Rattle.std.proofs.Common.{ℕ, zero, suc, ◌+◌, ◌-◌, ◌<◌, ◌≤◌, ◌≡◌, ◌≢◌, Bool, true, false, not}
-use Rattle.std.proofs.Common.{◌&&◌, List, [], ◌∷◌, ◌++◌, map, length, get_or, take, drop, eqb}
+use Rattle.std.proofs.Common.{List, [], ◌∷◌, ◌++◌, map, length, get_or, take, drop, eqb}
 use Rattle.std.proofs.Common.{eqb-true, eq-eqb, ne_eqb, ℤ, pos, refl, sym, ap, ◌∙◌, subst, arith}
-use Rattle.std.proofs.Common.{inl, inr, rules}
+use Rattle.std.proofs.Common.{inl, inr}
 use Rattle.std.proofs.lemmas.Bool.{cases_lt}
 use Rattle.std.proofs.lemmas.Int.{ints}
-use Rattle.std.specs.List.{All}
 use Rattle.list_laws.specs.Sets.{holds, below}
 use Rattle.mill_model.specs.declared.order.Order.{Order}
 use Rattle.list_laws.proofs.Tests.{or-cases, or-left, or-right, and-left, and-right, equal-tests}
@@ -18,7 +17,7 @@ use Rattle.colour_tables.specs.Entries.{AreSmallAll}
 use Rattle.colour_tables.specs.Threes.{once}
 use Rattle.colour_tables.specs.Items.{IsItem, IsRun, AreSmall, item_at, no_item}
 use Rattle.colour_tables.specs.Items.{places}
-use Rattle.colour_tables.specs.Stretches.{coloured_at, stretch_at, IsByColour, IsStretch}
+use Rattle.colour_tables.specs.Stretches.{coloured_at, stretch_at, IsByColour}
 use Rattle.colour_tables.specs.Stretches.{AreStretches, AreColours, AreItems}
 use Rattle.colour_tables.specs.declared.by_colour.Coloured.{Coloured}
 use Rattle.colour_tables.specs.declared.items.Item.{Item}
@@ -35,7 +34,8 @@ once-apart (item ∷ run) apart =
     rw (lacks run (λ t h. apart 0 (suc t) (omega arith) (omega arith)))
     (once-apart run (λ s t h k. apart (suc s) (suc t) (omega arith) (omega arith)))
   where
-    lacks : (xs : List Item) → ((t : ℕ) → t < length xs → eqb item.place (item_at xs t).place ≡ false) →
+    lacks : (xs : List Item) → ((t : ℕ) → t < length xs → eqb item.place (item_at xs t).place ≡
+        false) →
         holds item.place (places xs) ≡ false
     lacks [] h = refl
     lacks (x ∷ xs) h = rw (h 0 (omega arith)) (lacks xs (λ t k. h (suc t) (omega arith)))
@@ -45,7 +45,12 @@ pub place-found : (run : List Item) (i : ℕ) → holds i (places run) ≡ true 
 place-found [] i h = absurd (clash false h refl)
 place-found (item ∷ run) i h = elim (or-cases (eqb i item.place) (holds i (places run)) h) [
   | inl e ↦ (0, omega arith, sym (eqb-true i item.place e))
-  | inr k ↦ (let r = place-found run i k in (suc r.0, (let l : r.0 < length run = r.1 in omega arith), r.2))
+  | inr k ↦ (let r = place-found run i k in (
+    suc r.0,
+    (let l : r.0 < length run = r.1 in omega
+        arith),
+    r.2,
+  ))
 ]
 
 take-long : (n : ℕ) (xs : List Item) → n ≤ length xs → length (take n xs) ≡ n
@@ -248,7 +253,8 @@ module _ (rest : List Order) (prices : List ℤ) (same : length prices ≡ lengt
       (let a : (stretch_at ends c).0 < (stretch_at ends c).1 = (st.each c (omega arith)).some in
       let b : (stretch_at ends c).1 ≤ (stretch_at ends d).0 = st.rise c d h k in
       omega arith) in
-      let x : name c ≡ (coloured_at sorted (stretch_at ends c).0).colour = co.each c (omega arith) in
+      let x : name c ≡ (coloured_at sorted (stretch_at ends c).0).colour = co.each c (omega arith)
+      in
       let y : name d ≡ (coloured_at sorted (stretch_at ends d).0).colour = co.each d k in
       absurd (omega arith)
 

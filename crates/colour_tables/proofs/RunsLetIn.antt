@@ -1,19 +1,19 @@
 -- Runs of items: what one item more lets in, and what a whole run does.
-use Rattle.std.proofs.Common.{ℕ, zero, suc, ◌+◌, ◌-◌, ◌<◌, ◌≤◌, ◌≡◌, ◌≢◌, ◌⊎◌, Bool, true, false, not}
-use Rattle.std.proofs.Common.{◌&&◌, ◌||◌, List, [], ◌∷◌, ◌++◌, length, get_or, take, eqb, eq-eqb, ne_eqb}
-use Rattle.std.proofs.Common.{eqb-true, ℤ, pos, Option, leb, leb-true, leb-false, refl, sym, ap, ◌∙◌}
+use Rattle.std.proofs.Common.{ℕ, zero, suc, ◌+◌, ◌<◌, ◌≤◌, ◌≡◌, ◌≢◌, ◌⊎◌, Bool, true, false, not}
+use Rattle.std.proofs.Common.{◌&&◌, ◌||◌, List, [], ◌∷◌, ◌++◌, length, get_or, take, eqb, eq-eqb}
+use Rattle.std.proofs.Common.{ne_eqb}
+use Rattle.std.proofs.Common.{eqb-true, ℤ, pos, Option, refl, sym, ap, ◌∙◌}
 use Rattle.std.proofs.Common.{subst, arith, inl, inr}
 use Rattle.std.proofs.lemmas.List.{take_all}
 use Rattle.list_laws.specs.Sets.{holds}
 use Rattle.mill_model.specs.declared.order.Order.{Order}
 use Rattle.list_laws.proofs.Tests.{equal-tests}
 use Rattle.list_laws.proofs.Tests.{and-left, and-right}
-use Rattle.list_laws.proofs.Tests.{either, or-cases, or-left, or-right}
+use Rattle.list_laws.proofs.Tests.{or-cases, or-left, or-right}
 use Rattle.list_laws.proofs.Different.{holds-append}
-use Rattle.set_minima.specs.Packs.{nobody, colour_at, IsBest, IsTable, IsNext}
+use Rattle.set_minima.specs.Packs.{nobody, colour_at, IsTable, IsNext}
 use Rattle.list_laws.proofs.Tests.{clash}
 use Rattle.set_minima.proofs.WholeTables.{table-adds, table-allowed}
-use Rattle.set_minima.proofs.OneOrder.{best-added, best-heavy, best-allowed}
 use Rattle.set_minima.specs.Cells.{cell}
 use Rattle.colour_tables.specs.Threes.{once}
 use Rattle.colour_tables.specs.Items.{places, item_at, IsItem, IsRun, let_in}
@@ -77,7 +77,8 @@ module _ (before : ℕ → Bool) (run : List Item) (skip t : ℕ) (here : t < le
   abbrev p : ℕ
   p = (item_at run t).place
 
-  later : (i : ℕ) → holds i (places (take t run)) ≡ true → holds i (places (take (suc t) run)) ≡ true
+  later : (i : ℕ) → holds i (places (take t run)) ≡ true → holds i (places (take (suc t) run)) ≡
+      true
   later i h = holds-last run t i here ∙ or-left (holds i (places (take t run))) _ h
 
   let-kept : (i : ℕ) → let_in before run skip t i ≡ true → let_in before run skip (suc t) i ≡ true

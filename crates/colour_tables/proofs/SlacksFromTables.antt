@@ -1,5 +1,7 @@
 -- From the least over a table to the least slacks of the definitions.
-use Rattle.std.proofs.Common.{ℕ, ◌+◌, ◌*◌, ◌<◌, ◌≤◌, ◌≡◌, Bool, true, false, List, [], ◌∷◌, length, get_or, set, ℤ, pos, ◌+ℤ◌, ◌-ℤ◌, neg_ℤ, ◌≤ℤ◌, Some, int_lt, eqb, eq-eqb, eqb-true, not}
+use Rattle.std.proofs.Common.{ℕ, ◌+◌, ◌*◌, ◌<◌, ◌≤◌, ◌≡◌, Bool, true, false, List, [], ◌∷◌, length}
+use Rattle.std.proofs.Common.{get_or, set, ℤ, pos, ◌+ℤ◌, ◌-ℤ◌, neg_ℤ, ◌≤ℤ◌, Some, int_lt, eqb}
+use Rattle.std.proofs.Common.{eq-eqb, eqb-true, not}
 use Rattle.std.proofs.Common.{refl, sym, ap, ◌∙◌, subst, arith, inl, inr, append-nil, length-set}
 use Rattle.std.proofs.lemmas.Int.{ints}
 use Rattle.std.proofs.lemmas.List.{get_or-set_same}
@@ -12,7 +14,8 @@ use Rattle.list_laws.proofs.Tests.{or-cases, or-left, or-right}
 use Rattle.list_laws.proofs.Lists.{nothing, nothing-chosen, nothing-length}
 use Rattle.mill_laws.proofs.Slacks.{nothing-in}
 use Rattle.set_minima.specs.Packs.{IsTable, IsTop, nobody, colour_at, with_price}
-use Rattle.set_minima.specs.Joins.{gain, Joins, Packed, IsSlab, all_places, all_but, opposite, with_colour}
+use Rattle.set_minima.specs.Joins.{gain, Joins, Packed, IsSlab, all_places, all_but, opposite}
+use Rattle.set_minima.specs.Joins.{with_colour}
 use Rattle.set_minima.proofs.Places.{in-set-below}
 use Rattle.list_laws.proofs.Tests.{clash}
 use Rattle.set_minima.proofs.Tops.{top-same}
@@ -199,7 +202,8 @@ pub slack-with-own : (rest : List Order) (prices : List ℤ) (charge : ℕ → �
     (own now : List ℕ) (least : ℤ) (j : ℕ) (v : ℤ) → j < length rest →
     length prices ≡ length rest → IsRoom largest (base + (get_or rest j nobody).weight) n →
     with_colour (get_or rest j nobody).colour own ≡ now → different now ≤ 2 →
-    IsLeast rest prices charge largest (base + (get_or rest j nobody).weight) (all_but j) now least →
+    IsLeast rest prices charge largest (base + (get_or rest j nobody).weight) (all_but j) now least
+    →
     (group : List Order) → IsSlab group base own →
     least_on_with (two_colours largest) charge group rest (set prices j v) j ≡ Some (least -ℤ v)
 slack-with-own rest prices charge largest base n own now least j v here same room e d h =

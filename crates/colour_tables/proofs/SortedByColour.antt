@@ -80,7 +80,8 @@ all-apart : (p : ℕ) (rest : List Order) → IsDistinct same_place (coloured_fr
 unfolding IsDistinct
 all-apart p [] = tt
 all-apart p (o ∷ rest) =
-    IsDistinct-cons same_place (record { place = p; colour = o.colour }) (coloured_from (suc p) rest)
+    IsDistinct-cons same_place (record { place = p; colour = o.colour }) (coloured_from (suc p)
+    rest)
     (later-apart p (suc p) o.colour rest (omega arith)) (all-apart (suc p) rest)
 
 flips : (x y : Coloured) → same_place x y ≡ same_place y x
@@ -127,7 +128,8 @@ sorted-orders rest items moved rises =
         get_or items k (record { place = i; colour = c }) ≡ record { place = i; colour = c } →
         (coloured_at items k).place ≡ i
     placed k i c h e =
-        ap (λ (x : Coloured). x.place) (other items k no_coloured (record { place = i; colour = c }) h ∙ e)
+        ap (λ (x : Coloured). x.place) (other items k no_coloured (record { place = i; colour = c })
+        h ∙ e)
       where
         other : (xs : List Coloured) (k : ℕ) (a b : Coloured) → k < length xs →
             get_or xs k a ≡ get_or xs k b

@@ -1,5 +1,5 @@
 -- The stretches of the colours, found one after another.
-use Rattle.std.proofs.Common.{ℕ, zero, suc, ◌+◌, ◌<◌, ◌≤◌, ◌≡◌, ◌≢◌, List, [], ◌∷◌, ◌++◌, length, get_or}
+use Rattle.std.proofs.Common.{ℕ, zero, suc, ◌<◌, ◌≤◌, ◌≡◌, ◌≢◌, List, [], ◌∷◌, ◌++◌, length, get_or}
 use Rattle.std.proofs.Common.{refl, sym, ap, ◌∙◌, subst, arith, inl, inr}
 use Rattle.std.proofs.lemmas.Bool.{cases_lt}
 use Rattle.colour_tables.specs.Stretches.{coloured_at, stretch_at, IsStretch, AreStretches}
@@ -32,7 +32,8 @@ pub before-end : (sorted : List Coloured) (at end : ℕ) → IsStretch sorted at
     end < length sorted → (s : ℕ) → s < end →
     (coloured_at sorted s).colour < (coloured_at sorted end).colour
 before-end sorted at end it l s h = elim (cases_lt s at) [
-  | inl b ↦ (let u : (coloured_at sorted s).colour < (coloured_at sorted at).colour = it.before s b in
+  | inl b ↦ (let u : (coloured_at sorted s).colour < (coloured_at sorted at).colour = it.before s b
+      in
       let v : (coloured_at sorted at).colour < (coloured_at sorted end).colour =
       it.after end (omega arith) l in
       omega arith)
@@ -85,7 +86,8 @@ next-stretch sorted at end ends now e s run =
             | inr b ↦ (let q : length ends ≡ c = omega arith in
                 subst (λ k. IsStretch sorted (stretch_at (ends ++ (at, end) ∷ []) k).0
                 (stretch_at (ends ++ (at, end) ∷ []) k).1) q
-                (subst (λ (z : ℕ × ℕ). IsStretch sorted z.0 z.1) (sym (last-at ends (at, end))) run))
+                (subst (λ (z : ℕ × ℕ). IsStretch sorted z.0 z.1) (sym (last-at ends (at, end)))
+                run))
           ];
           below = λ c h. elim (cases_lt c (length ends)) [
             | inl b ↦ (let o : (stretch_at ends c).1 ≤ at = s.below c b in
@@ -108,23 +110,24 @@ next-stretch sorted at end ends now e s run =
                 let o : (stretch_at ends c).1 ≤ at = s.below c l in
                 let x : stretch_at (ends ++ (at, end) ∷ []) c ≡ stretch_at ends c =
                 old-at ends (at, end) c l in
-                rw x (subst (λ m. (stretch_at ends c).1 ≤ (stretch_at (ends ++ (at, end) ∷ []) m).0) q
-                (subst (λ (z : ℕ × ℕ). (stretch_at ends c).1 ≤ z.0) (sym (last-at ends (at, end))) o)))
+                rw x (subst (λ m. (stretch_at ends c).1 ≤ (stretch_at (ends ++ (at, end) ∷ []) m).0)
+                q
+                (subst (λ (z : ℕ × ℕ). (stretch_at ends c).1 ≤ z.0) (sym (last-at ends (at, end)))
+                o)))
           ];
           reach = λ t h. elim (cases_lt t at) [
-            | inl b ↦ (let r = s.reach t b in
-                (
-                  r.0,
-                  (let l : r.0 < length ends = r.1 in omega arith),
-                  subst (λ (z : ℕ × ℕ). z.0 ≤ t) (sym (old-at ends (at, end) r.0 r.1)) r.2,
-                  subst (λ (z : ℕ × ℕ). t < z.1) (sym (old-at ends (at, end) r.0 r.1)) r.3,
-                ))
+            | inl b ↦ (let r = s.reach t b in (
+              r.0,
+              (let l : r.0 < length ends = r.1 in omega arith),
+              subst (λ (z : ℕ × ℕ). z.0 ≤ t) (sym (old-at ends (at, end) r.0 r.1)) r.2,
+              subst (λ (z : ℕ × ℕ). t < z.1) (sym (old-at ends (at, end) r.0 r.1)) r.3,
+            ))
             | inr b ↦ (
-                length ends,
-                omega arith,
-                subst (λ (z : ℕ × ℕ). z.0 ≤ t) (sym (last-at ends (at, end))) b,
-                subst (λ (z : ℕ × ℕ). t < z.1) (sym (last-at ends (at, end))) h,
-              )
+              length ends,
+              omega arith,
+              subst (λ (z : ℕ × ℕ). z.0 ≤ t) (sym (last-at ends (at, end))) b,
+              subst (λ (z : ℕ × ℕ). t < z.1) (sym (last-at ends (at, end))) h,
+            )
           ];
         }
 

@@ -1,6 +1,7 @@
 -- Tables that are made of sorted orders: what of their sizes and runs the rows are filled from, and
 -- what they are once filled.
-use Rattle.std.proofs.Common.{ℕ, ◌+◌, ◌<◌, ◌≤◌, ◌≡◌, true, List, map, length, get_or, ℤ, sym, ap, ◌∙◌, subst, arith}
+use Rattle.std.proofs.Common.{ℕ, ◌<◌, ◌≤◌, ◌≡◌, true, List, map, length, get_or, ℤ, sym, ap, ◌∙◌}
+use Rattle.std.proofs.Common.{subst, arith}
 use Rattle.std.specs.List.{All}
 use Rattle.list_laws.specs.Sets.{holds, below}
 use Rattle.list_laws.proofs.Different.{holds-below-lt}
@@ -13,11 +14,11 @@ use Rattle.colour_tables.specs.Threes.{once}
 use Rattle.colour_tables.specs.Stretches.{IsByColour, AreStretches, AreColours, AreItems}
 use Rattle.colour_tables.specs.Owned.{AreRuns, AreRunsSafe}
 use Rattle.colour_tables.specs.declared.by_colour.Coloured.{Coloured}
-use Rattle.colour_tables.specs.declared.items.Item.{Item}
 use Rattle.colour_tables.specs.declared.slabs.Runs.{Runs}
 use Rattle.colour_tables.proofs.ColoursPaid.{once-names}
 use Rattle.colour_tables.proofs.RowsLaidOut.{all-small}
-use Rattle.colour_tables.proofs.RunsFromStretches.{within, run-is, run-small, colours-once, colours-all}
+use Rattle.colour_tables.proofs.RunsFromStretches.{within, run-is, run-small, colours-once}
+use Rattle.colour_tables.proofs.RunsFromStretches.{colours-all}
 use Rattle.colour_tables.proofs.StretchesFound.{few-stretches}
 
 pub prices-small : (prices : List ℤ) → All IsPrice prices → AreSmallAll prices
@@ -47,7 +48,8 @@ module _ (rest : List Order) (prices : List ℤ) (few : length rest ≤ 1024) (o
   pub made-safe : AreRunsSafe present runs
   made-safe c h =
       let b = inside c h in
-      let w = within rest prices same sorted by runs.ends.items st colours co runs.items.items it c b in
+      let w = within rest prices same sorted by runs.ends.items st colours co runs.items.items it c
+      b in
       record {
         here = b;
         order = w.0;

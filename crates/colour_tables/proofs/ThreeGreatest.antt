@@ -1,7 +1,8 @@
 -- The three greatest of some numbers: the order of the insertions does not matter, and one or two
 -- of the numbers can be taken out.
 use Rattle.std.proofs.Common.{ℕ, ◌≡◌, ◌≢◌, List, [], ◌∷◌, ℤ, ◌≤ℤ◌, ◌<ℤ◌, Bool, true, false, eqb}
-use Rattle.std.proofs.Common.{refl, sym, ap, ap₂, ◌∙◌, arith, inl, inr, eqb-true, eq-eqb, ne_eqb, ◌&&◌, ◌||◌}
+use Rattle.std.proofs.Common.{refl, sym, ap, ap₂, ◌∙◌, arith, inl, inr, eqb-true, eq-eqb, ne_eqb}
+use Rattle.std.proofs.Common.{◌&&◌, ◌||◌}
 use Rattle.std.proofs.Common.{not, subst, ◌⊎◌, ◌++◌, int_lt, take, length, get_or, suc, ◌+◌, ◌<◌}
 use Rattle.std.proofs.Math.Seq.{take-suc}
 use Rattle.std.proofs.lemmas.Int.{ints}
@@ -10,7 +11,8 @@ use Rattle.list_laws.specs.Sets.{holds}
 use Rattle.list_laws.proofs.Tests.{and-left, and-right}
 use Rattle.list_laws.proofs.Tests.{either, or-cases, or-left, or-right}
 use Rattle.list_laws.proofs.Tests.{clash}
-use Rattle.colour_tables.specs.Threes.{Three, IsSorted, insert, three, but, once, IsButOne, IsButTwo, IsLeft}
+use Rattle.colour_tables.specs.Threes.{Three, IsSorted, insert, three, but, once, IsButOne}
+use Rattle.colour_tables.specs.Threes.{IsButTwo, IsLeft}
 
 first-swap : (b x y : ℤ) → int_max (int_max b y) x ≡ int_max (int_max b x) y
 first-swap b x y = grind (arith, ints)
@@ -60,7 +62,8 @@ but-none c [] h = refl
 but-none c (d ∷ ds) h =
     elim (either (eqb c d)) [
       | inl e ↦ absurd (clash (eqb c d || holds c ds) (rw e refl) h)
-      | inr e ↦ (let n : eqb d c ≡ false = ne_eqb d c (λ q. clash (eqb c d) (eq-eqb c d (sym q)) e) in
+      | inr e ↦ (let n : eqb d c ≡ false = ne_eqb d c (λ q. clash (eqb c d) (eq-eqb c d (sym q)) e)
+          in
           let k : holds c ds ≡ false = rw e at h in
           rw n (ap (λ z. d ∷ z) (but-none c ds k)))
     ]

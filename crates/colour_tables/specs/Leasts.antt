@@ -1,5 +1,6 @@
 -- The least slack of the sets of allowed orders that may join a slab with some load and colours.
-use Rattle.std.specs.Prelude.{ℕ, suc, pos, length, ◌+◌, ◌*◌, ◌<◌, ◌-◌, ◌≤◌, ◌≡◌, Bool, true, List, [], ◌∷◌, ◌⊎◌, ℤ, neg_ℤ}
+use Rattle.std.specs.Prelude.{ℕ, suc, pos, ◌+◌, ◌*◌, ◌<◌, ◌-◌, ◌≤◌, ◌≡◌, Bool, true, List, [], ◌∷◌}
+use Rattle.std.specs.Prelude.{◌⊎◌, ℤ, neg_ℤ}
 use Rattle.mill_model.specs.Slab.{Mill}
 use Rattle.mill_model.specs.declared.order.Order.{Order}
 use Rattle.set_minima.specs.Packs.{IsTop}

@@ -1,5 +1,6 @@
 -- The colours of a slab, by those of them that are to come; and the runs of the colours.
-use Rattle.std.specs.Prelude.{ℕ, ◌+◌, ◌-◌, ◌<◌, ◌≤◌, ◌≡◌, ◌⊎◌, true, false, eqb, List, [], ◌∷◌, length, take, drop, ℤ, slice_index_or}
+use Rattle.std.specs.Prelude.{ℕ, ◌+◌, ◌-◌, ◌<◌, ◌≤◌, ◌≡◌, ◌⊎◌, true, false, eqb, List, [], ◌∷◌}
+use Rattle.std.specs.Prelude.{length, take, drop, ℤ, slice_index_or}
 use Rattle.list_laws.specs.Sets.{holds, different}
 use Rattle.mill_model.specs.declared.order.Order.{Order}
 use Rattle.set_minima.specs.Packs.{colour_at, IsTable}

@@ -1,10 +1,10 @@
 -- Orders to come with their prices, as clauses see the tables of their sets; and what a slab and an
 -- order in its turn are to these tables.
-use Rattle.std.specs.Prelude.{ℕ, ◌+◌, ◌<◌, ◌≤◌, ◌≡◌, true, List, map, length, ℤ, slice_index_or}
-use Rattle.list_laws.specs.Sets.{holds, below}
+use Rattle.std.specs.Prelude.{ℕ, ◌+◌, ◌≤◌, ◌≡◌, true, List, length, ℤ, slice_index_or}
+use Rattle.list_laws.specs.Sets.{holds, below, different}
 use Rattle.mill_model.specs.Charges.{ChargeTable, charge_of}
 use Rattle.mill_model.specs.declared.order.Order.{Order}
-use Rattle.set_minima.specs.Packs.{colour_at, nobody}
+use Rattle.set_minima.specs.Packs.{nobody}
 use Rattle.set_minima.specs.Joins.{IsSlab}
 use Rattle.set_minima.specs.Cells.{AreNear}
 use Rattle.colour_tables.specs.Entries.{AreSmallAll}
@@ -53,6 +53,7 @@ pub record IsKnown (orders : PricedOrders) (slab : Slab) : Type 0 where
 -- the slab of a group
 pub record StandsFor (orders : PricedOrders) (group : List Order) (slab : Slab) : Type 0 where
   pub own : List ℕ
+  pub apart : length own ≡ different own
   pub of : IsSlab group slab.load own
   pub is : IsOwn orders.rest (colour_of orders) own slab.own
 

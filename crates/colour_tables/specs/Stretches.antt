@@ -37,7 +37,8 @@ pub record IsByColour (rest : List Order) (sorted : List Coloured) : Type 0 wher
 pub record IsStretch (sorted : List Coloured) (at end : ℕ) : Type 0 where
   pub some : at < end
   pub ends : end ≤ length sorted
-  pub alike : (t : ℕ) → at ≤ t → t < end → (coloured_at sorted t).colour ≡ (coloured_at sorted at).colour
+  pub alike : (t : ℕ) → at ≤ t → t < end → (coloured_at sorted t).colour ≡ (coloured_at sorted
+      at).colour
   pub before : (s : ℕ) → s < at → (coloured_at sorted s).colour < (coloured_at sorted at).colour
   pub after :
       (t : ℕ) → end ≤ t → t < length sorted →
@@ -54,10 +55,11 @@ pub record AreStretches (sorted : List Coloured) (upto : ℕ) (ends : List (ℕ 
       × (t < (stretch_at ends c).1)
 
 -- the colour of each stretch
-pub record AreColours (sorted : List Coloured) (ends : List (ℕ × ℕ)) (colours : List ℕ) : Type 0 where
-  pub count : length colours ≡ length ends
-  pub each : (c : ℕ) → c < length ends →
-      slice_index_or colours c 0 ≡ (coloured_at sorted (stretch_at ends c).0).colour
+pub record AreColours (sorted : List Coloured) (ends : List (ℕ × ℕ)) (colours : List ℕ) : Type 0
+  where
+    pub count : length colours ≡ length ends
+    pub each : (c : ℕ) → c < length ends →
+        slice_index_or colours c 0 ≡ (coloured_at sorted (stretch_at ends c).0).colour
 
 -- the item of each order, in the same order
 pub record AreItems (rest : List Order) (prices : List ℤ) (sorted : List Coloured)

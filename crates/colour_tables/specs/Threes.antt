@@ -73,4 +73,5 @@ AreWithin width size present =
 -- the three greatest at each load but 0
 abbrev pub AreTops : ℕ → List ℕ → List ℤ → List ℤ → List ℤ → List ℤ → Type 0
 AreTops width present rows best second third =
-    (l : ℕ) → 0 < l → l < width → column best second third l ≡ three (row_entry rows width l) present
+    (l : ℕ) → 0 < l → l < width → column best second third l ≡ three (row_entry rows width l)
+    present

@@ -1,6 +1,7 @@
 // The rows of the colours to come, and the tables that are made of them.
 
-ghost use Rattle.std.specs.Prelude.{◌≡◌, ℕ, List, Bool, true, ℤ, ◌+◌, ◌-◌, ◌*◌, ◌^◌, ◌<◌, ◌≤◌, ◌∷◌, [], length, map, eqb, false, set};
+ghost use Rattle.std.specs.Prelude.{◌≡◌, ℕ, List, Bool, true, ℤ, ◌+◌, ◌-◌, ◌*◌, ◌^◌, ◌<◌, ◌≤◌, ◌∷◌};
+ghost use Rattle.std.specs.Prelude.{[], length, map, eqb, false, set};
 ghost use Rattle.std.specs.Prelude.{slice_index_or};
 ghost use Rattle.list_laws.specs.Sets.{holds, different};
 ghost use Rattle.mill_model.specs.declared.order.Order.{Order};
@@ -173,7 +174,8 @@ impl Rows {
         requires few { length table.old ≤ self.now.width }
         requires small { AreSmall run.now }
         ensures is { (rest : List Order) → (prices : List ℤ) → (name : ℕ → ℕ) → (c : ℕ) →
-            (own : List ℕ) → AreRows rest prices name self.now → IsRun rest prices (name c) run.now →
+            (own : List ℕ) → AreRows rest prices name self.now →
+            IsRun rest prices (name c) run.now →
             holds c (but d self.now.present.items) ≡ true →
             (skip < length rest → colour_at rest skip ≡ name c) → different own ≡ 2 →
             holds (name c) own ≡ true → holds (name d) own ≡ true →

@@ -1,6 +1,7 @@
 // Rows filled anew from the runs of the colours.
 
-ghost use Rattle.std.specs.Prelude.{◌≡◌, ℕ, List, true, ℤ, ◌+◌, ◌-◌, ◌*◌, ◌^◌, ◌<◌, ◌≤◌, ◌⊎◌, ◌∷◌, [], length, pos};
+ghost use Rattle.std.specs.Prelude.{◌≡◌, ℕ, List, true, ℤ, ◌+◌, ◌-◌, ◌*◌, ◌^◌, ◌<◌, ◌≤◌, ◌⊎◌, ◌∷◌};
+ghost use Rattle.std.specs.Prelude.{[], length, pos};
 ghost use Rattle.std.specs.Prelude.{slice_index, map};
 ghost use Rattle.list_laws.specs.Sets.{holds};
 ghost use Rattle.mill_model.specs.declared.order.Order.{Order};

@@ -1,7 +1,8 @@
 // Slabs and orders in their turn, as the tables know them.
 
-ghost use Rattle.std.specs.Prelude.{◌≡◌, ◌↔◌, ℕ, ◌+◌, ◌<◌, ◌≤◌, List, ℤ, length, set, true, false, Some, None};
-ghost use Rattle.std.specs.Prelude.{slice_index_or, IsTrue};
+ghost use Rattle.std.specs.Prelude.{◌≡◌, ◌↔◌, ℕ, ◌+◌, ◌<◌, ◌≤◌, List, ℤ, length, set, true, false};
+ghost use Rattle.std.specs.Prelude.{Some, None};
+ghost use Rattle.std.specs.Prelude.{slice_index_or};
 ghost use Rattle.list_laws.specs.Sets.{holds, different, below};
 ghost use Rattle.mill_model.specs.Bounds.{least_on_with};
 ghost use Rattle.mill_model.specs.Charges.{charge_of};
@@ -9,7 +10,8 @@ ghost use Rattle.mill_model.specs.declared.order.Order.{Order};
 ghost use Rattle.set_minima.specs.Joins.{IsSlab};
 ghost use Rattle.colour_tables.specs.Leasts.{two_colours};
 ghost use Rattle.colour_tables.specs.Owned.{IsHeld, IsOwn, MayTake};
-ghost use Rattle.colour_tables.specs.PricedOrders.{IsKnown, StandsFor, IsTurnOf, MayJoin, colour_of};
+ghost use Rattle.colour_tables.specs.PricedOrders.{IsKnown, StandsFor, IsTurnOf, MayJoin};
+ghost use Rattle.colour_tables.specs.PricedOrders.{colour_of};
 
 use crate::slab::{Own, Slab};
 use crate::slabs;
@@ -30,9 +32,10 @@ fn find_colour(colours: &[u16], colour: u16) -> Option<usize>
     None
 }
 
-/// Whether an order of a colour may join a slab as far as the colours go.
+/// Whether a slab takes an order of a colour.
 fn takes(own: Own, c: usize) -> bool
-    ensures { IsTrue result ↔ MayTake c own }
+    ensures yes { result ≡ true → MayTake c own }
+    ensures no { result ≡ false → MayTake c own → ⊥ }
 {
     match own {
         Own::Bare | Own::Free(_) => true,
@@ -40,6 +43,14 @@ fn takes(own: Own, c: usize) -> bool
         Own::Two(d, e) => d == c || e == c,
         Own::Full => false,
     }
+}
+
+/// Whether a slab with some room takes an order of a weight and a colour.
+fn may_join(room: usize, weight: usize, own: Own, c: usize) -> bool
+    ensures yes { result ≡ true → (weight ≤ room) × MayTake c own }
+    ensures no { result ≡ false → weight ≤ room → MayTake c own → ⊥ }
+{
+    weight <= room && takes(own, c)
 }
 
 impl<'a> ColourTables<'a> {
@@ -86,11 +97,15 @@ impl<'a> ColourTables<'a> {
     pub fn can_join(&self, slab: Slab, turn: &Turn) -> bool
         requires known { IsKnown self.now slab }
         requires turn { IsTurnOf self.now turn.now }
-        ensures joins { IsTrue result ↔ MayJoin self.now turn.now slab }
+        ensures joins { result ≡ true → MayJoin self.now turn.now slab }
+        ensures cannot { result ≡ false → (price : ℤ) → (group : List Order) →
+            StandsFor self.now group slab → least_on_with (two_colours self.now.largest)
+            (charge_of self.now.charges) group self.now.rest
+            (set self.now.prices turn.now.place price) turn.now.place ≡ None }
     {
         let rest = self.rest;
         let weight = rest[turn.place].weight as usize;
-        weight <= self.largest - slab.load && takes(slab.own, turn.colour)
+        may_join(self.largest - slab.load, weight, slab.own, turn.colour)
     }
 
     /// Begins the turn of an order.

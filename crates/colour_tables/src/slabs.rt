@@ -1,11 +1,13 @@
 // The least slacks of a slab, by its load and its colours.
 
-ghost use Rattle.std.specs.Prelude.{◌≡◌, ℕ, List, Bool, true, false, ℤ, ◌+◌, ◌-◌, ◌^◌, ◌<◌, ◌≤◌, ◌-ℤ◌, ◌∷◌, [], length};
+ghost use Rattle.std.specs.Prelude.{◌≡◌, ℕ, List, Bool, true, false, ℤ, ◌+◌, ◌-◌, ◌^◌, ◌<◌, ◌≤◌};
+ghost use Rattle.std.specs.Prelude.{◌-ℤ◌, ◌∷◌, [], length};
 ghost use Rattle.std.specs.Prelude.{neg_ℤ, set, map, Some, slice_index_or};
 ghost use Rattle.colour_tables.specs.Threes.{once};
 ghost use Rattle.list_laws.specs.Sets.{holds, different};
 ghost use Rattle.mill_model.specs.Prices.{least_slack};
-ghost use Rattle.mill_model.specs.Bounds.{least_on_with, least_on_without, least_new_with, least_new};
+ghost use Rattle.mill_model.specs.Bounds.{least_on_with, least_on_without, least_new_with};
+ghost use Rattle.mill_model.specs.Bounds.{least_new};
 ghost use Rattle.mill_model.specs.declared.order.Order.{Order};
 ghost use Rattle.set_minima.specs.Packs.{IsTable, IsTop, colour_at, nobody};
 ghost use Rattle.set_minima.specs.Joins.{IsSlab, gain, Packed, all_but, all_places, AreOrders};
@@ -16,7 +18,8 @@ ghost use Rattle.colour_tables.specs.Colours.{but_order};
 ghost use Rattle.colour_tables.specs.Leasts.{IsLeast, IsRoom, two_colours};
 ghost use Rattle.colour_tables.specs.Rowed.{IsShaped, AreRows};
 ghost use Rattle.colour_tables.specs.Items.{AreSmall, IsRun, item_at};
-ghost use Rattle.colour_tables.specs.Owned.{run_of, IsRunSafe, AreRunsSafe, AreRuns, IsHeld, IsOwn, MayTake, IsTurn, IsInRun, IsFound};
+ghost use Rattle.colour_tables.specs.Owned.{run_of, IsRunSafe, AreRunsSafe, AreRuns, IsHeld, IsOwn};
+ghost use Rattle.colour_tables.specs.Owned.{MayTake, IsTurn, IsInRun, IsFound};
 
 use crate::colour_rows::Rows;
 use crate::gain::{least, least_above};

@@ -1,6 +1,7 @@
 // Tables of the knapsack: the best prices of sets by load, one order at a time.
 
-ghost use Rattle.std.specs.Prelude.{◌≡◌, ℕ, List, Bool, true, false, ℤ, ◌+◌, ◌-◌, ◌^◌, ◌<◌, ◌≤◌, ◌⊎◌, leb};
+ghost use Rattle.std.specs.Prelude.{◌≡◌, ℕ, List, Bool, true, false, ℤ, ◌+◌, ◌-◌, ◌^◌, ◌<◌, ◌≤◌};
+ghost use Rattle.std.specs.Prelude.{◌⊎◌, leb};
 ghost use Rattle.std.specs.Prelude.{cond, length, Some, None, pos, suc, ◌∷◌, []};
 ghost use Rattle.list_laws.specs.Sets.{holds};
 ghost use Rattle.mill_model.specs.declared.order.Order.{Order};

@@ -1,8 +1,10 @@
 // The tables of the orders to come, as one value.
 
-ghost use Rattle.std.specs.Prelude.{◌≡◌, ◌↔◌, ℕ, ◌+◌, ◌-ℤ◌, ◌<◌, ◌≤◌, List, [], All, ℤ, length, set, slice_index_or, true, false, IsTrue, IfOk, Some, None};
+ghost use Rattle.std.specs.Prelude.{◌≡◌, ◌↔◌, ℕ, ◌+◌, ◌-ℤ◌, ◌<◌, ◌≤◌, List, [], All, ℤ, length};
+ghost use Rattle.std.specs.Prelude.{set, slice_index_or, true, false, IsTrue, IfOk, Some, None};
 ghost use Rattle.list_laws.specs.Sets.{holds, different};
-ghost use Rattle.mill_model.specs.Bounds.{least_on_with, least_on_without, least_new_with, least_new};
+ghost use Rattle.mill_model.specs.Bounds.{least_on_with, least_on_without, least_new_with};
+ghost use Rattle.mill_model.specs.Bounds.{least_new};
 ghost use Rattle.mill_model.specs.Charges.{charge_of};
 ghost use Rattle.mill_model.specs.Limits.{IsPrice};
 ghost use Rattle.mill_model.specs.Prices.{least_slack};
@@ -78,14 +80,19 @@ impl<'a> ColourTables<'a> {
     /// price is.
     pub fn least_new_with(&self, turn: &Turn) -> i64
         requires turn { IsTurnOf self.now turn.now }
-        requires fits { (slice_index_or self.now.rest turn.now.place nobody).weight ≤ self.now.largest }
+        requires fits { (slice_index_or self.now.rest turn.now.place nobody).weight
+            ≤ self.now.largest }
         ensures is { (price : ℤ) → least_new_with (two_colours self.now.largest)
             (charge_of self.now.charges) self.now.rest (set self.now.prices turn.now.place price)
             turn.now.place ≡ Some (result -ℤ price) }
     {
         let rest = self.rest;
         let weight = rest[turn.place].weight as usize;
-        slabs::least_new_with(&self.paid[weight..], &turn.beside, self.largest - weight + 1)
+        slabs::least_new_with(
+            &self.paid[weight..],
+            &turn.beside,
+            self.largest - weight + 1,
+        )
     }
 
     /// The least slack of a slab over all sets that may join it and hold the order in its turn,
@@ -178,6 +185,7 @@ impl<'a> ColourTables<'a> {
         let at = self.runs.position(turn.colour, turn.place);
         self.prices[turn.place] = price;
         self.runs.set_price(at, price);
-        self.rows.set_price(&mut turn.alone, turn.colour, weight, price);
+        self.rows
+            .set_price(&mut turn.alone, turn.colour, weight, price);
     }
 }

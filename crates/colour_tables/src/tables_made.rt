@@ -1,6 +1,7 @@
 // The tables of the orders to come, made anew.
 
-ghost use Rattle.std.specs.Prelude.{◌≡◌, ◌≢◌, ℕ, ◌+◌, ◌*◌, ◌<◌, ◌≤◌, true, false, All, length, IfOk, Some, None};
+ghost use Rattle.std.specs.Prelude.{◌≡◌, ◌≢◌, ℕ, ◌+◌, ◌*◌, ◌<◌, ◌≤◌, true, false, All, length};
+ghost use Rattle.std.specs.Prelude.{IfOk, Some, None};
 ghost use Rattle.std.specs.Prelude.{slice_index_or};
 ghost use Rattle.list_laws.specs.Sets.{holds, below};
 ghost use Rattle.mill_model.specs.Charges.{charge_of};
@@ -54,7 +55,8 @@ fn paid_charges(alloc: Global, charges: &Charges, largest: u32) -> Result<Vec<i6
     requires narrow { largest ≤ 20000 }
     requires reach { length charges.now.list ≡ largest + 1 }
     ensures long { IfOk result (λ paid. length paid.items ≡ largest + 1) }
-    ensures is { IfOk result (λ paid. AreCharged (charge_of charges.now) 0 (largest + 1) paid.items) }
+    ensures is { IfOk result
+        (λ paid. AreCharged (charge_of charges.now) 0 (largest + 1) paid.items) }
     ensures small { IfOk result (λ paid. AreSmallAll paid.items) }
 {
     let mut paid = Vec::with_capacity(alloc, largest as usize + 1)?;

@@ -1,11 +1,13 @@
 // The three greatest values of the colours' rows by load, and the greatest but for one or two rows.
 
-ghost use Rattle.std.specs.Prelude.{◌≡◌, ℕ, ℤ, ◌<◌, ◌≤◌, ◌+◌, ◌*◌, length, pos, set, ◌≢◌, true, ◌⊎◌};
+ghost use Rattle.std.specs.Prelude.{◌≡◌, ℕ, ℤ, ◌<◌, ◌≤◌, ◌+◌, ◌*◌, length, pos, set, ◌≢◌, true};
+ghost use Rattle.std.specs.Prelude.{◌⊎◌};
 ghost use Rattle.std.specs.Int.{int_max, int_min};
 ghost use Rattle.list_laws.specs.Sets.{holds};
 ghost use Rattle.colour_tables.specs.Entries.{entry};
 ghost use Rattle.set_minima.specs.Cells.{AreNear, nothing};
-ghost use Rattle.colour_tables.specs.Threes.{Three, IsButOne, IsButTwo, IsLeft, insert, column, three};
+ghost use Rattle.colour_tables.specs.Threes.{Three, IsButOne, IsButTwo, IsLeft, insert, column};
+ghost use Rattle.colour_tables.specs.Threes.{three};
 ghost use Rattle.colour_tables.specs.Threes.{row_entry, once, AreWithin, AreTops, IsSorted};
 
 use crate::table::NOTHING;

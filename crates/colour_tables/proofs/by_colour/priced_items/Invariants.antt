@@ -11,7 +11,8 @@ invariant-loop-t l = record {
   place : (t : ℕ) → t < l.t → (item_at l.items.items t).place ≡ (coloured_at l.sorted t).place;
   weighs :
       (t : ℕ) → t < l.t →
-      (item_at l.items.items t).weight ≡ (get_or l.rest (coloured_at l.sorted t).place nobody).weight;
+      (item_at l.items.items t).weight ≡ (get_or l.rest (coloured_at l.sorted t).place
+      nobody).weight;
   priced :
       (t : ℕ) → t < l.t →
       (item_at l.items.items t).price ≡ get_or l.prices (coloured_at l.sorted t).place (pos 0);

@@ -3,7 +3,8 @@ use Rattle.std.proofs.lemmas.List.{take_all}
 use Rattle.std.proofs.lemmas.List.Sorted.{IsNonDecreasingBy-from_sort_by_key}
 use Rattle.set_minima.specs.Packs.{colour_at}
 use Rattle.colour_tables.specs.declared.by_colour.Coloured.{Coloured}
-use Rattle.colour_tables.proofs.SortedByColour.{coloured_from, coloured-from-length, coloured-from-more}
+use Rattle.colour_tables.proofs.SortedByColour.{coloured_from, coloured-from-length}
+use Rattle.colour_tables.proofs.SortedByColour.{coloured-from-more}
 use Rattle.colour_tables.proofs.SortedByColour.{sorted-orders}
 use Rattle.colour_tables.proofs.by_colour.sort_by_colour.Goals as goal
 

@@ -1,4 +1,4 @@
-use Rattle.std.proofs.Common.{◌≡◌, ◌++◌, ◌∷◌, [], length, arith, rules, sym, subst}
+use Rattle.std.proofs.Common.{◌≡◌, ◌++◌, ◌∷◌, [], arith, rules, sym, subst}
 use Rattle.colour_tables.specs.Stretches.{IsStretch, AreStretches}
 use Rattle.colour_tables.proofs.StretchesFound.{stretch-from, before-end, no-stretch, next-stretch}
 use Rattle.colour_tables.proofs.by_colour.stretches.Goals as goal

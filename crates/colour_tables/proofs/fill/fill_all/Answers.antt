@@ -1,4 +1,5 @@
-use Rattle.std.proofs.Common.{ℕ, ◌≡◌, ◌+◌, ◌*◌, ◌<◌, ◌≤◌, ◌⊎◌, ◌∷◌, [], ◌∙◌, length, get_or, sym, subst}
+use Rattle.std.proofs.Common.{ℕ, ◌≡◌, ◌+◌, ◌*◌, ◌<◌, ◌≤◌, ◌⊎◌, ◌∷◌, [], ◌∙◌, length, get_or, sym}
+use Rattle.std.proofs.Common.{subst}
 use Rattle.set_minima.specs.Packs.{IsTable}
 use Rattle.colour_tables.specs.Entries.{entry}
 use Rattle.set_minima.specs.Cells.{found}
@@ -21,7 +22,8 @@ loop-t-preserved c =
     let cs = c.args.present.now in
     let d = get_or c.args.present.now c.loop-t.t 0 in
     let n = length c.args.best.now in
-    let w : length c.loop-t.best ≡ length c.args.best.now = c.loop-t.auto.best ∙ c.clear.auto.table in
+    let w : length c.loop-t.best ≡ length c.args.best.now = c.loop-t.auto.best ∙ c.clear.auto.table
+    in
     let other = subst (λ z. (i : ℕ) → i < d * z ⊎ d * z + z ≤ i →
     entry c.add_row.new.rows i ≡ entry c.loop-t.rows i) w c.add_row.ensures.other in
     record {

@@ -1,4 +1,5 @@
-use Rattle.std.proofs.Common.{ℕ, ◌≡◌, ◌+◌, ◌-◌, ◌*◌, ◌<◌, ◌≤◌, ◌⊎◌, ◌∷◌, [], ◌∙◌, length, sym, subst, arith, rules, inl, inr}
+use Rattle.std.proofs.Common.{ℕ, ◌≡◌, ◌+◌, ◌-◌, ◌*◌, ◌<◌, ◌≤◌, ◌⊎◌, ◌∷◌, [], ◌∙◌, length, sym}
+use Rattle.std.proofs.Common.{subst, arith, rules, inl, inr}
 use Rattle.set_minima.specs.Packs.{IsTable, IsBest}
 use Rattle.colour_tables.specs.Entries.{entry}
 use Rattle.set_minima.specs.Cells.{found, cell}

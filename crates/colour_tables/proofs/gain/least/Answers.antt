@@ -1,4 +1,5 @@
-use Rattle.std.proofs.Common.{◌≡◌, suc, ◌+◌, ◌-ℤ◌, neg_ℤ, length, get_or, pos, SFits, w64, to_z-of_z, to_z, rules, arith, sym, subst, ap, ◌∙◌}
+use Rattle.std.proofs.Common.{◌≡◌, suc, ◌+◌, ◌-ℤ◌, neg_ℤ, length, get_or, pos, SFits, w64}
+use Rattle.std.proofs.Common.{to_z-of_z, to_z, rules, arith, sym, subst, ap, ◌∙◌}
 use Rattle.set_minima.specs.Packs.{IsTop}
 use Rattle.set_minima.specs.Joins.{gain, Packed}
 use Rattle.set_minima.proofs.Gains.{gain-more}

@@ -1,4 +1,4 @@
-use Rattle.std.proofs.Common.{ℕ, ◌<◌, ◌≡◌, ◌≢◌, get_or}
+use Rattle.std.proofs.Common.{ℕ, ◌<◌, ◌≢◌, get_or}
 use Rattle.colour_tables.proofs.known.find_colour.Given as goal
 
 abbrev pub invariant-loop-c : goal.invariant-loop-c

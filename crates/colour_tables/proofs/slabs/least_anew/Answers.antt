@@ -1,4 +1,5 @@
-use Rattle.std.proofs.Common.{◌≡◌, ◌+◌, ◌<◌, ◌∷◌, [], length, take, get_or, neg_ℤ, sym, subst, arith, SFits, w64, to_z, to_z-of_z, rules, pos}
+use Rattle.std.proofs.Common.{◌≡◌, ◌+◌, ◌<◌, ◌∷◌, [], length, take, get_or, neg_ℤ, sym, subst}
+use Rattle.std.proofs.Common.{arith, SFits, w64, to_z, to_z-of_z, rules, pos}
 use Rattle.std.proofs.lemmas.List.{take_all}
 use Rattle.set_minima.specs.Packs.{IsTop}
 use Rattle.set_minima.specs.Joins.{gain, all_places}

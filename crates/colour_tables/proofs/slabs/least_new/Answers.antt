@@ -1,4 +1,5 @@
-use Rattle.std.proofs.Common.{◌≡◌, ◌+◌, ◌<◌, ◌∷◌, [], ◌∙◌, length, take, neg_ℤ, sym, subst, arith, SFits, w64, to_z, to_z-of_z, rules}
+use Rattle.std.proofs.Common.{◌≡◌, ◌+◌, ◌<◌, ◌∷◌, [], ◌∙◌, length, take, neg_ℤ, sym, subst, arith}
+use Rattle.std.proofs.Common.{SFits, w64, to_z, to_z-of_z, rules}
 use Rattle.std.proofs.lemmas.List.{take_all}
 use Rattle.set_minima.specs.Packs.{IsTop, IsTable}
 use Rattle.set_minima.specs.Joins.{gain, Packed, Joins, all_places, all_but}

@@ -1,4 +1,5 @@
-use Rattle.std.proofs.Common.{◌≡◌, ◌+◌, ◌∷◌, [], ◌∙◌, true, false, eqb, ne_eqb, length, get_or, sym, subst, ap, arith, SFits, w64, to_z-of_z, rules, inl, inr}
+use Rattle.std.proofs.Common.{◌≡◌, ◌+◌, ◌∷◌, [], ◌∙◌, true, false, eqb, ne_eqb, length, get_or, sym}
+use Rattle.std.proofs.Common.{subst, ap, arith, SFits, w64, to_z-of_z, rules, inl, inr}
 use Rattle.list_laws.specs.Sets.{holds}
 use Rattle.set_minima.specs.Packs.{nobody, colour_at}
 use Rattle.set_minima.specs.Joins.{all_but, with_colour}
@@ -10,7 +11,8 @@ use Rattle.colour_tables.proofs.ColoursPaid.{but-less, but-more, same-name}
 use Rattle.colour_tables.proofs.OwnTables.{alone-table, near-large}
 use Rattle.colour_tables.proofs.AllowedByTables.{row-without}
 use Rattle.colour_tables.proofs.SlacksFromTables.{least-top, slack-with-own, with-old, with-new}
-use Rattle.colour_tables.proofs.SlacksFromTables.{two-different, holds-first, holds-second, lacks-one, only-new}
+use Rattle.colour_tables.proofs.SlacksFromTables.{two-different, holds-first, holds-second}
+use Rattle.colour_tables.proofs.SlacksFromTables.{lacks-one, only-new}
 use Rattle.colour_tables.proofs.slabs.least_with.Goals as goal
 
 pub least_front-requires-clause-near : goal.least_front-requires-clause-near
@@ -82,7 +84,8 @@ returns-else-d-c c = record {
       c.requires.colour h q))) in
       let least = c.least_pair.ensures.is rest prices name charge largest
       (base + (get_or rest j nobody).weight) c.args.c now rows
-      (subst (λ xs. IsRun rest prices a xs) (sym c.run.ensures.is) (runs c.args.c c.requires.colour))
+      (subst (λ xs. IsRun rest prices a xs) (sym c.run.ensures.is) (runs c.args.c
+      c.requires.colour))
       (but-more d c.args.c cs (ne_eqb c.args.c d (λ q. c.if-d-c.false (sym q)))
       c.requires.colour) (λ q. turn.colour) (two-different a x apart)
       (holds-first a (x ∷ [])) (holds-second a x) room charged in

@@ -1,4 +1,5 @@
-use Rattle.std.proofs.Common.{◌≡◌, ◌∷◌, [], ◌∙◌, true, eqb, ne_eqb, length, sym, subst, ap, arith, SFits, w64, to_z-of_z, rules, inl, inr}
+use Rattle.std.proofs.Common.{◌≡◌, ◌∷◌, [], ◌∙◌, true, eqb, ne_eqb, length, sym, subst, ap, arith}
+use Rattle.std.proofs.Common.{SFits, w64, to_z-of_z, rules, inl, inr}
 use Rattle.list_laws.specs.Sets.{holds}
 use Rattle.set_minima.specs.Packs.{colour_at}
 use Rattle.set_minima.specs.Joins.{all_but, IsSlab}
@@ -14,7 +15,8 @@ use Rattle.colour_tables.proofs.slabs.least_without.Goals as goal
 
 pub returns-in-Bare : goal.returns-in-Bare
 returns-in-Bare c = record {
-  is = λ rest prices name charge largest base colours rows runs far turn own room charged v group of.
+  is = λ rest prices
+      name charge largest base colours rows runs far turn own room charged v group of.
       let f : SFits w64 c.least_bare.result = search rules in
       let o = subst (λ z. IsOwn rest name colours z) c.in-Bare.is own in
       let j = c.args.j in
@@ -27,7 +29,8 @@ returns-in-Bare c = record {
 
 pub returns-then-d-c : goal.returns-then-d-c
 returns-then-d-c c = record {
-  is = λ rest prices name charge largest base colours rows runs far turn own room charged v group of.
+  is = λ rest prices
+      name charge largest base colours rows runs far turn own room charged v group of.
       let f : SFits w64 c.least_front.result = search rules in
       let o = subst (λ z. IsOwn rest name colours z) c.in-Free.is own in
       let n = length c.args.table.now in
@@ -50,7 +53,8 @@ least_apart-requires-clause-other c =
 
 pub returns-else-d-c : goal.returns-else-d-c
 returns-else-d-c c = record {
-  is = λ rest prices name charge largest base colours rows runs far turn own room charged v group of.
+  is = λ rest prices
+      name charge largest base colours rows runs far turn own room charged v group of.
       let f : SFits w64 c.least_apart.result = search rules in
       let o = subst (λ z. IsOwn rest name colours z) c.in-Free.is own in
       let h = subst (λ z. IsHeld c.args.rows.now.present.items z) c.in-Free.is c.requires.held in
@@ -67,7 +71,8 @@ returns-else-d-c c = record {
 
 pub returns-in-One : goal.returns-in-One
 returns-in-One c = record {
-  is = λ rest prices name charge largest base colours rows runs far turn own room charged v group of.
+  is = λ rest prices
+      name charge largest base colours rows runs far turn own room charged v group of.
       let f : SFits w64 c.least_front-in-One.result = search rules in
       let o = subst (λ z. IsOwn rest name colours z) c.in-One.is own in
       let e = subst (λ z. MayTake c.args.c z) c.in-One.is c.requires.takes in
@@ -93,7 +98,8 @@ least_pair-requires-clause-held c =
 
 pub returns-then-d-c-2 : goal.returns-then-d-c-2
 returns-then-d-c-2 c = record {
-  is = λ rest prices name charge largest base colours rows runs far turn own room charged v group of.
+  is = λ rest prices
+      name charge largest base colours rows runs far turn own room charged v group of.
       let f : SFits w64 c.least_pair.result = search rules in
       let o = subst (λ z. IsOwn rest name colours z) c.in-Two.is own in
       let h = subst (λ z. IsHeld c.args.rows.now.present.items z) c.in-Two.is c.requires.held in
@@ -115,7 +121,8 @@ returns-then-d-c-2 c = record {
 
 pub returns-else-d-c-2 : goal.returns-else-d-c-2
 returns-else-d-c-2 c = record {
-  is = λ rest prices name charge largest base colours rows runs far turn own room charged v group of.
+  is = λ rest prices
+      name charge largest base colours rows runs far turn own room charged v group of.
       let f : SFits w64 c.least_pair-in-Two.result = search rules in
       let o = subst (λ z. IsOwn rest name colours z) c.in-Two.is own in
       let h = subst (λ z. IsHeld c.args.rows.now.present.items z) c.in-Two.is c.requires.held in

@@ -1,4 +1,5 @@
-use Rattle.std.proofs.Common.{ℕ, ◌≡◌, ◌+◌, ◌-◌, ◌*◌, ◌/◌, ◌<◌, ◌≤◌, ◌∙◌, get_or, length, pos, refl, SFits, w64, to_z-of_z, rules, arith}
+use Rattle.std.proofs.Common.{ℕ, ◌≡◌, ◌+◌, ◌-◌, ◌*◌, ◌/◌, ◌<◌, ◌≤◌, ◌∙◌, get_or, length, pos, refl}
+use Rattle.std.proofs.Common.{SFits, w64, to_z-of_z, rules, arith}
 use Rattle.std.proofs.lemmas.List.{length-take-le}
 use Rattle.set_minima.proofs.CellNumbers.{near-wider}
 use Rattle.colour_tables.proofs.FourWritten.{more-done, more-old, more-near, last-cells, last-near}

@@ -42,7 +42,11 @@ loop-t-preserved c = record {
 
 pub returns-clause-best : goal.returns-clause-best
 returns-clause-best c rest prices colour is before own k paid new h =
-    let e : c.loop-t.t ≡ length c.args.run.now = omega (arith, c.loop-t-test.false, c.loop-t.auto.t-end) in
+    let e : c.loop-t.t ≡ length c.args.run.now = omega (
+      arith,
+      c.loop-t-test.false,
+      c.loop-t.auto.t-end,
+    ) in
     subst (λ t. IsTable (let_in before c.args.run.now c.args.skip t) own k rest prices
     (length c.args.table.now) (cell c.loop-t.table)) e
     (c.loop-t.invariant.best rest prices colour is before own k paid new h)

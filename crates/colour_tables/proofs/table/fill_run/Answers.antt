@@ -1,4 +1,5 @@
-use Rattle.std.proofs.Common.{◌≡◌, ℕ, zero, suc, ◌+◌, ◌<◌, ◌∷◌, [], false, length, refl, sym, subst, arith, get_or, pos}
+use Rattle.std.proofs.Common.{◌≡◌, ℕ, zero, suc, ◌+◌, ◌<◌, ◌∷◌, [], false, length, refl, sym, subst}
+use Rattle.std.proofs.Common.{arith, get_or, pos}
 use Rattle.set_minima.specs.Packs.{IsBest, IsTable}
 use Rattle.set_minima.proofs.OneColour.{table-none, table-empty}
 use Rattle.set_minima.specs.Cells.{cell}

@@ -1,4 +1,4 @@
-use Rattle.std.proofs.Common.{ℕ, suc, ◌≡◌, ◌+◌, ◌++◌, ◌∷◌, [], ap, ◌∙◌, subst, arith, rules}
+use Rattle.std.proofs.Common.{suc, ◌≡◌, ◌+◌, ◌++◌, ◌∷◌, [], ap, ◌∙◌, subst, arith, rules}
 use Rattle.list_laws.specs.Sets.{below}
 use Rattle.colour_tables.proofs.tables_made.numbers.Goals as goal
 
@@ -22,5 +22,9 @@ loop-c-preserved c =
 
 pub returns : goal.returns
 returns c =
-    let e : c.loop-c.c ≡ c.args.count = omega (arith, c.loop-c.invariant.inside, c.loop-c-test.false) in
+    let e : c.loop-c.c ≡ c.args.count = omega (
+      arith,
+      c.loop-c.invariant.inside,
+      c.loop-c-test.false,
+    ) in
     subst (λ n. c.loop-c.numbers.items ≡ below n) e c.loop-c.invariant.is

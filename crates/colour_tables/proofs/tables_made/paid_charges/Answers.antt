@@ -1,8 +1,7 @@
-use Rattle.std.proofs.Common.{ℕ, ℤ, ◌≡◌, ◌≤◌, ◌<◌, ◌+◌, ◌*◌, ◌++◌, ◌∷◌, [], ◌∙◌, sym, subst, length, pos, ap, arith, rules}
+use Rattle.std.proofs.Common.{ℤ, ◌≡◌, ◌+◌, ◌*◌, ◌++◌, ◌∷◌, [], ◌∙◌, pos, ap, arith, rules}
 use Rattle.std.proofs.lemmas.Int.{ints}
 use Rattle.mill_model.specs.Charges.{charge_of}
 use Rattle.set_minima.specs.Cells.{IsSmall}
-use Rattle.colour_tables.specs.Entries.{entry}
 use Rattle.colour_tables.proofs.RowsLaidOut.{each-push, all-small}
 use Rattle.colour_tables.proofs.tables_made.paid_charges.Goals as goal
 
@@ -22,8 +21,14 @@ loop-load-preserved c =
       small =
           each-push (λ k z. IsSmall 20000000000 z) c.loop-load.paid.items c.push.new.self.items
           (pos (60 * c.charge.result)) c.loop-load.load e c.loop-load.invariant.count
-          c.loop-load.invariant.small
-          (omega (arith, ints, c.charge.ensures.limit), omega (arith, ints, c.charge.ensures.limit));
+          c.loop-load.invariant.small (
+            omega (arith, ints, c.charge.ensures.limit),
+            omega (
+              arith,
+              ints,
+              c.charge.ensures.limit,
+            ),
+          );
     }
 
 pub returns-clause-is : goal.returns-clause-is

@@ -6,7 +6,8 @@ use Rattle.colour_tables.proofs.tops.look.Goals as goal
 pub loop-i-preserved : goal.loop-i-preserved
 loop-i-preserved c =
     let i = c.loop-i.i in
-    let v = get_or c.args.rows.now (get_or c.args.present.now i 0 * c.args.width + c.args.load) (pos 0) in
+    let v = get_or c.args.rows.now (get_or c.args.present.now i 0 * c.args.width + c.args.load) (pos
+    0) in
     let fv : SFits w64 v = search rules in
     let f0 : SFits w64 c.inserted.result.0 = search rules in
     let f1 : SFits w64 c.inserted.result.1 = search rules in

@@ -17,7 +17,8 @@ loop-l-preserved c =
     let fs : SFits w64 (get_or c.args.second.now c.loop-l.l (pos 0)) = search rules in
     let e = simp to_z-of_z at c.but_two.ensures in
     let m = simp to_z-of_z at c.max.ensures.value in
-    simp to_z-of_z (below-set (λ k e. (w : ℤ) × IsButTwo (entry c.args.x.now k) (entry c.args.y.now k)
+    simp to_z-of_z (below-set (λ k e. (w : ℤ) × IsButTwo (entry c.args.x.now k) (entry c.args.y.now
+    k)
     (entry c.args.best.now k) (entry c.args.second.now k) (entry c.args.third.now k) w
     × (e ≡ int_max w (entry c.args.z.now k))) c.loop-l.to c.loop-l.l c.max.result (omega arith)
     (c.but_two.result, e, m) c.loop-l.invariant)

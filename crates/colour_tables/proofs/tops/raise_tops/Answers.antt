@@ -1,4 +1,5 @@
-use Rattle.std.proofs.Common.{ℕ, ◌≡◌, ◌∙◌, get_or, pos, SFits, w64, to_z-of_z, rules, arith, ap, inl, inr, subst, ◌≢◌, set}
+use Rattle.std.proofs.Common.{ℕ, ◌≡◌, ◌∙◌, get_or, pos, SFits, w64, to_z-of_z, rules, arith, ap}
+use Rattle.std.proofs.Common.{inl, inr, subst, ◌≢◌, set}
 use Rattle.std.proofs.lemmas.Bool.{cases_lt}
 use Rattle.colour_tables.specs.Entries.{entry}
 use Rattle.colour_tables.specs.Threes.{insert, column}

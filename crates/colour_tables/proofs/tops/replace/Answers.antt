@@ -1,4 +1,6 @@
-use Rattle.std.proofs.Common.{ℕ, ◌≡◌, ◌≢◌, ◌+◌, ◌*◌, ◌<◌, ◌≤◌, ◌∙◌, ◌⊎◌, length, get_or, set, pos, SFits, w64, to_z-of_z, rules, arith, sym, refl, ap, inl, inr, subst, List, ℤ}
+use Rattle.std.proofs.Common.{ℕ, ◌≡◌, ◌≢◌, ◌+◌, ◌*◌, ◌<◌, ◌≤◌, ◌∙◌, ◌⊎◌, length, get_or, set, pos}
+use Rattle.std.proofs.Common.{SFits, w64, to_z-of_z, rules, arith, sym, refl, ap, inl, inr, subst}
+use Rattle.std.proofs.Common.{List, ℤ}
 use Rattle.std.proofs.lemmas.Bool.{cases_lt}
 use Rattle.std.proofs.lemmas.List.{length-set}
 use Rattle.colour_tables.specs.Entries.{entry}
@@ -69,7 +71,10 @@ loop-load-preserved c =
             (tops-put rows width c.args.c l v (omega arith) here c.args.present.now k b n)
       ];
       first =
-          ap (λ (t : Three). t.best) (c.replace_at.ensures.others 0 (λ q. absurd (omega (arith, c.loop-load.auto.load))))
+          ap (λ (t : Three). t.best) (c.replace_at.ensures.others 0 (λ q. absurd (omega (
+            arith,
+            c.loop-load.auto.load,
+          ))))
           ∙ c.loop-load.invariant.first;
     }
   where

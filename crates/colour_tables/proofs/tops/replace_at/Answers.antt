@@ -1,4 +1,5 @@
-use Rattle.std.proofs.Common.{◌+◌, ◌*◌, ◌∙◌, length, get_or, set, pos, SFits, w64, to_z, to_z-of_z, rules, arith, sym, ap}
+use Rattle.std.proofs.Common.{◌+◌, ◌*◌, ◌∙◌, length, get_or, set, pos, SFits, w64, to_z, to_z-of_z}
+use Rattle.std.proofs.Common.{rules, arith, sym, ap}
 use Rattle.std.proofs.lemmas.List.{set-get_or}
 use Rattle.colour_tables.specs.Threes.{three, but, row_entry}
 use Rattle.colour_tables.proofs.LoadsWritten.{column-same}
@@ -13,7 +14,8 @@ returns-then-old-value-clause-tops c =
     let present = c.args.present.now in
     let v = get_or c.args.new.now l (pos 0) in
     let fv : SFits w64 (get_or c.args.new.now c.args.load (pos 0)) = search rules in
-    let fo : SFits w64 (get_or c.args.rows.now (c.args.c * length c.args.new.now + c.args.load) (pos 0)) = search rules in
+    let fo : SFits w64 (get_or c.args.rows.now (c.args.c * length c.args.new.now + c.args.load) (pos
+    0)) = search rules in
     let fb : SFits w64 (get_or c.args.best.now c.args.load (pos 0)) = search rules in
     let fs : SFits w64 (get_or c.args.second.now c.args.load (pos 0)) = search rules in
     let ft : SFits w64 (get_or c.args.third.now c.args.load (pos 0)) = search rules in
@@ -35,7 +37,8 @@ returns-then-old-value-clause-tops c =
 pub returns-else-old-value-clause-rows : goal.returns-else-old-value-clause-rows
 returns-else-old-value-clause-rows c =
     let fv : SFits w64 (get_or c.args.new.now c.args.load (pos 0)) = search rules in
-    let fo : SFits w64 (get_or c.args.rows.now (c.args.c * length c.args.new.now + c.args.load) (pos 0)) = search rules in
+    let fo : SFits w64 (get_or c.args.rows.now (c.args.c * length c.args.new.now + c.args.load) (pos
+    0)) = search rules in
     let e = simp to_z-of_z at (ap (to_z w64) c.if-old-value.false) in
     let at = c.args.c * length c.args.new.now + c.args.load in
     sym (set-get_or c.args.rows.now at (pos 0)) ∙ ap (set c.args.rows.now at) e

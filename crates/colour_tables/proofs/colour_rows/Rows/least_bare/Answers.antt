@@ -8,7 +8,8 @@ use Rattle.colour_tables.proofs.colour_rows.Rows.least_bare.Goals as goal
 
 pub least-requires-clause-near : goal.least-requires-clause-near
 least-requires-clause-near c l =
-    near-wider 20500000000000 200000000000000000 (get_or c.put_bare.new.table l (pos 0)) (omega arith)
+    near-wider 20500000000000 200000000000000000 (get_or c.put_bare.new.table l (pos 0)) (omega
+    arith)
     (c.put_bare.ensures.near l)
 
 pub returns : goal.returns

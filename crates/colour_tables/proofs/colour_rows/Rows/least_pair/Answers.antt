@@ -6,7 +6,8 @@ use Rattle.colour_tables.proofs.colour_rows.Rows.least_pair.Goals as goal
 
 pub least-requires-clause-near : goal.least-requires-clause-near
 least-requires-clause-near c l =
-    near-wider 40980000000000 200000000000000000 (get_or c.put_pair.new.table l (pos 0)) (omega arith)
+    near-wider 40980000000000 200000000000000000 (get_or c.put_pair.new.table l (pos 0)) (omega
+    arith)
     (c.put_pair.ensures.near l)
 
 pub returns : goal.returns
@@ -15,7 +16,8 @@ returns c = record {
       let f : SFits w64 c.least.result = search rules in
       let e = c.least.ensures.top in
       simp to_z-of_z (least-over rest prices charge largest base (length c.args.table.now)
-      (length c.put_pair.new.table) (all_but c.args.skip) (own) c.args.charges.now c.put_pair.new.table
+      (length c.put_pair.new.table) (all_but c.args.skip) (own) c.args.charges.now
+      c.put_pair.new.table
       c.least.result c.put_pair.auto.table room charged
       (c.put_pair.ensures.is rest prices name colour own rows run other at two h k)
       (λ p q. e (all_but c.args.skip) (own) 2 rest prices charge base p q));

@@ -9,7 +9,8 @@ use Rattle.set_minima.proofs.CellNumbers.{near-wider}
 use Rattle.colour_tables.proofs.NearNumbers.{front-near}
 use Rattle.colour_tables.proofs.ColoursPaid.{own-table, full-table, front-table, but-less}
 use Rattle.colour_tables.proofs.RunsLetIn.{run-table, self-holds}
-use Rattle.colour_tables.proofs.AllowedByTables.{pair-more, pair-less, row-without, row-own, row-other, apart}
+use Rattle.colour_tables.proofs.AllowedByTables.{pair-more, pair-less, row-without, row-own}
+use Rattle.colour_tables.proofs.AllowedByTables.{row-other, apart}
 use Rattle.colour_tables.proofs.colour_rows.Rows.put_pair.Goals as goal
 
 pub returns-clause-is : goal.returns-clause-is
@@ -22,7 +23,8 @@ returns-clause-is c rest prices name colour own rows run other at two h k =
     let held = (but-less d colour t.present.items other).1 in
     let row : IsTable A own 2 rest prices n (cell c.copy_from_slice.new.self) =
     own-table rest prices A (name d ∷ []) own 1 2 n (cell c.copy_from_slice.new.self)
-    (omega arith) (omega arith) (λ i b a. row-own rest (name d) (name d ∷ []) (self-holds (name d) []) i a)
+    (omega arith) (omega arith) (λ i b a. row-own rest (name d) (name d ∷ []) (self-holds (name d)
+    []) i a)
     (λ i b a. row-own rest (name d) own k i a)
     (front-table rest prices A (name d ∷ []) 1 t.width n
     (row_entry t.rows.items t.width) d c.row.result.now

@@ -1,4 +1,5 @@
-use Rattle.std.proofs.Common.{ℕ, ℤ, List, ◌≡◌, ◌+◌, ◌*◌, ◌<◌, ◌≤◌, ◌⊎◌, ◌∙◌, length, ap, sym, subst, refl, arith, get_or, pos, SFits, w64, to_z-of_z, rules}
+use Rattle.std.proofs.Common.{ℕ, ℤ, List, ◌≡◌, ◌+◌, ◌*◌, ◌<◌, ◌≤◌, ◌⊎◌, ◌∙◌, length, ap, sym, subst}
+use Rattle.std.proofs.Common.{refl, arith, get_or, pos, SFits, w64, to_z-of_z, rules}
 use Rattle.std.specs.Vec.{with_items}
 use Rattle.std.proofs.lemmas.List.{with_items_is}
 use Rattle.colour_tables.specs.Entries.{entry}

@@ -1,4 +1,5 @@
-use Rattle.std.proofs.Common.{◌-◌, ◌≤◌, slice_index_or, ap, sym, subst, refl, length-set, SFits, w64, to_z-of_z, rules}
+use Rattle.std.proofs.Common.{◌-◌, ◌≤◌, slice_index_or, ap, sym, subst, refl, length-set, SFits}
+use Rattle.std.proofs.Common.{w64, to_z-of_z, rules}
 use Rattle.colour_tables.specs.Items.{item_at}
 use Rattle.colour_tables.specs.Owned.{IsInRun}
 use Rattle.colour_tables.specs.declared.items.Item.{Item}

@@ -1,8 +1,8 @@
-use Rattle.std.proofs.Common.{ℕ, ◌≡◌, ◌∙◌, ◌+◌, ◌<◌, true, false, List, ℤ, map, length, get_or, refl, sym, ap, subst, arith, rules, Some}
+use Rattle.std.proofs.Common.{ℕ, ◌≡◌, ◌∙◌, ◌+◌, ◌<◌, true, false, map, length, get_or, refl, sym}
+use Rattle.std.proofs.Common.{ap, subst, rules}
 use Rattle.std.proofs.Common.{eqb, eq-eqb}
-use Rattle.std.specs.Vec.{with_items}
 use Rattle.std.proofs.lemmas.List.{with_items_is}
-use Rattle.list_laws.specs.Sets.{holds, below}
+use Rattle.list_laws.specs.Sets.{holds}
 use Rattle.list_laws.proofs.Tests.{clash}
 use Rattle.list_laws.proofs.Different.{below-holds}
 use Rattle.set_minima.specs.Packs.{colour_at}
@@ -51,8 +51,8 @@ returns-in-Some-clause-turn c =
           (c.begin_turn.ensures.is t.rest.now t.prices.items name i.row_tables i.run_orders here
           at);
       known = (below-holds c.in-Some.colour (length t.colours.items)
-    (subst (λ xs. c.in-Some.colour < length xs) c.deref.ensures.value
-    (c.in-Some.ensures.found c.in-Some.colour refl)));
+          (subst (λ xs. c.in-Some.colour < length xs) c.deref.ensures.value
+          (c.in-Some.ensures.found c.in-Some.colour refl)));
       alone = ap length e ∙ n ∙ long;
       beside = ap length f ∙ m ∙ wide;
       near = subst (λ xs. AreNear 20480000000000 xs) (sym e) c.begin_turn.ensures.alone;

@@ -1,13 +1,8 @@
-use Rattle.std.proofs.Common.{◌≡◌, ◌+◌, ◌-◌, ◌<◌, ◌≤◌, ◌∷◌, [], ℕ, ℤ, List, get_or, length, set, sym, subst, arith}
-use Rattle.std.proofs.Common.{SFits, w64, to_z-of_z, rules, take, pos, ◌*◌}
+use Rattle.std.proofs.Common.{◌≡◌, ◌+◌, ◌-◌, ◌<◌, ℕ, get_or, length, sym, subst, arith}
+use Rattle.std.proofs.Common.{SFits, w64, to_z-of_z, rules, take}
 use Rattle.mill_model.specs.Charges.{charge_of}
-use Rattle.set_minima.specs.Packs.{nobody}
-use Rattle.set_minima.specs.Joins.{all_but}
-use Rattle.colour_tables.specs.Entries.{entry}
-use Rattle.colour_tables.specs.Leasts.{IsRoom}
-use Rattle.colour_tables.specs.PricedOrders.{PricedOrders, IsKnown, IsTurnOf, MayJoin}
+use Rattle.colour_tables.specs.PricedOrders.{PricedOrders, IsKnown}
 use Rattle.colour_tables.proofs.PaidCharges.{charged-from, room-of}
-use Rattle.colour_tables.proofs.TurnTables.{turn-from, front-of}
 use Rattle.colour_tables.proofs.tables.ColourTables.least_on.Goals as goal
 
 pub returns : goal.returns

@@ -1,13 +1,13 @@
-use Rattle.std.proofs.Common.{ℕ, ◌≡◌, ◌∙◌, ◌<◌, ◌≤◌, ◌+◌, true, List, length, get_or, refl, sym, ap, subst, arith, rules}
+use Rattle.std.proofs.Common.{ℕ, ◌≡◌, ◌∙◌, ◌<◌, ◌≤◌, ◌+◌, true, length, get_or, sym, subst, arith}
+use Rattle.std.proofs.Common.{rules}
 use Rattle.list_laws.specs.Sets.{below}
-use Rattle.mill_model.specs.Charges.{charge_of}
 use Rattle.colour_tables.specs.Stretches.{IsByColour, AreStretches, AreColours, AreItems}
 use Rattle.colour_tables.specs.Entries.{AreSmallAll}
 use Rattle.colour_tables.specs.Threes.{once}
 use Rattle.colour_tables.specs.Rowed.{AreRows}
 use Rattle.colour_tables.specs.Owned.{AreRuns, AreRunsSafe}
 use Rattle.colour_tables.specs.declared.slabs.Runs.{Runs}
-use Rattle.colour_tables.proofs.TablesMade.{prices-small, made-few, made-safe, made-runs, made-names}
+use Rattle.colour_tables.proofs.TablesMade.{prices-small, made-safe, made-runs, made-names}
 use Rattle.colour_tables.proofs.TablesMade.{made-once, made-all, made-present}
 use Rattle.colour_tables.proofs.StretchesFound.{few-stretches}
 use Rattle.colour_tables.proofs.tables.ColourTables.new.Goals as goal

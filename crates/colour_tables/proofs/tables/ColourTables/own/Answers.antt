@@ -1,4 +1,5 @@
-use Rattle.std.proofs.Common.{ℕ, ◌≡◌, ◌<◌, ◌≤◌, true, false, List, map, length, get_or, refl, sym, subst, arith, rules, Some, None}
+use Rattle.std.proofs.Common.{ℕ, ◌≡◌, ◌<◌, true, false, map, length, get_or, refl, subst, rules}
+use Rattle.std.proofs.Common.{Some, None}
 use Rattle.list_laws.specs.Sets.{holds, below}
 use Rattle.list_laws.proofs.Different.{below-holds}
 use Rattle.set_minima.specs.Packs.{colour_at}
@@ -14,7 +15,8 @@ returns-in-Some-clause-held c =
     let t = c.self.inside in
     let q : c.find_colour-first.result ≡ Some c.in-Some.d = search rules in
     let b : c.in-Some.d < length t.colours.items =
-    subst (λ xs. c.in-Some.d < length xs) c.deref.ensures.value (c.find_colour-first.ensures.found c.in-Some.d q) in
+    subst (λ xs. c.in-Some.d < length xs) c.deref.ensures.value (c.find_colour-first.ensures.found
+    c.in-Some.d q) in
     subst (λ (o : PricedOrders). holds c.in-Some.d (below (length o.colours)) ≡ true) c.self.view_is
     (below-holds c.in-Some.d (length t.colours.items) b)
 
@@ -45,12 +47,15 @@ returns-in-Some-Some-clause-held c =
     (c.find_colour-first.ensures.is c.in-Some-Some.d q) in
     let r : c.find_colour.result ≡ Some c.in-Some-Some.e = search rules in
     let s : get_or t.colours.items c.in-Some-Some.e 0 ≡ get_or c.args.colours.now 1 0 =
-    subst (λ xs. get_or xs c.in-Some-Some.e 0 ≡ get_or c.args.colours.now 1 0) c.deref-2.ensures.value
+    subst (λ xs. get_or xs c.in-Some-Some.e 0 ≡ get_or c.args.colours.now 1 0)
+    c.deref-2.ensures.value
     (c.find_colour.ensures.is c.in-Some-Some.e r) in
     let h : c.in-Some-Some.d < length t.colours.items =
-    subst (λ xs. c.in-Some-Some.d < length xs) c.deref.ensures.value (c.find_colour-first.ensures.found c.in-Some-Some.d q) in
+    subst (λ xs. c.in-Some-Some.d < length xs) c.deref.ensures.value
+    (c.find_colour-first.ensures.found c.in-Some-Some.d q) in
     let k : c.in-Some-Some.e < length t.colours.items =
-    subst (λ xs. c.in-Some-Some.e < length xs) c.deref-2.ensures.value (c.find_colour.ensures.found c.in-Some-Some.e r) in
+    subst (λ xs. c.in-Some-Some.e < length xs) c.deref-2.ensures.value (c.find_colour.ensures.found
+    c.in-Some-Some.e r) in
     subst (λ (o : PricedOrders). IsHeld (below (length o.colours))
     (Two c.in-Some-Some.d c.in-Some-Some.e)) c.self.view_is
     (held-two t.rest.now t.colours.items all c.args.colours.now n c.requires.apart
@@ -61,8 +66,10 @@ returns-in-Some-None-clause-held c =
     let t = c.self.inside in
     let q : c.find_colour-first.result ≡ Some c.in-Some-None.d = search rules in
     let b : c.in-Some-None.d < length t.colours.items =
-    subst (λ xs. c.in-Some-None.d < length xs) c.deref.ensures.value (c.find_colour-first.ensures.found c.in-Some-None.d q) in
-    subst (λ (o : PricedOrders). holds c.in-Some-None.d (below (length o.colours)) ≡ true) c.self.view_is
+    subst (λ xs. c.in-Some-None.d < length xs) c.deref.ensures.value
+    (c.find_colour-first.ensures.found c.in-Some-None.d q) in
+    subst (λ (o : PricedOrders). holds c.in-Some-None.d (below (length o.colours)) ≡ true)
+    c.self.view_is
     (below-holds c.in-Some-None.d (length t.colours.items) b)
 
 pub returns-in-Some-None-clause-is : goal.returns-in-Some-None-clause-is
@@ -91,8 +98,10 @@ returns-in-None-Some-clause-held c =
     let t = c.self.inside in
     let q : c.find_colour.result ≡ Some c.in-None-Some.e = search rules in
     let b : c.in-None-Some.e < length t.colours.items =
-    subst (λ xs. c.in-None-Some.e < length xs) c.deref-2.ensures.value (c.find_colour.ensures.found c.in-None-Some.e q) in
-    subst (λ (o : PricedOrders). holds c.in-None-Some.e (below (length o.colours)) ≡ true) c.self.view_is
+    subst (λ xs. c.in-None-Some.e < length xs) c.deref-2.ensures.value (c.find_colour.ensures.found
+    c.in-None-Some.e q) in
+    subst (λ (o : PricedOrders). holds c.in-None-Some.e (below (length o.colours)) ≡ true)
+    c.self.view_is
     (below-holds c.in-None-Some.e (length t.colours.items) b)
 
 pub returns-in-None-Some-clause-is : goal.returns-in-None-Some-clause-is
@@ -109,7 +118,8 @@ returns-in-None-Some-clause-is c =
     (c.find_colour-first.ensures.none q) in
     let r : c.find_colour.result ≡ Some c.in-None-Some.e = search rules in
     let s : get_or t.colours.items c.in-None-Some.e 0 ≡ get_or c.args.colours.now 1 0 =
-    subst (λ xs. get_or xs c.in-None-Some.e 0 ≡ get_or c.args.colours.now 1 0) c.deref-2.ensures.value
+    subst (λ xs. get_or xs c.in-None-Some.e 0 ≡ get_or c.args.colours.now 1 0)
+    c.deref-2.ensures.value
     (c.find_colour.ensures.is c.in-None-Some.e r) in
     subst (λ (o : PricedOrders). IsOwn o.rest (colour_of o) c.args.colours.now
     (One c.in-None-Some.e)) c.self.view_is

@@ -6,7 +6,7 @@ use Rattle.std.proofs.Common.{ap, ◌∙◌, subst, arith, inl, inr}
 use Rattle.std.proofs.lemmas.Bool.{cases_lt}
 use Rattle.list_laws.specs.Sets.{holds}
 use Rattle.mill_model.specs.declared.order.Order.{Order}
-use Rattle.list_laws.proofs.Tests.{and-left, and-right, either, or-cases, or-left, or-right, clash}
+use Rattle.list_laws.proofs.Tests.{and-left, and-right, either, or-cases, or-left, or-right, clash, equal-tests}
 use Rattle.set_minima.specs.Packs.{nobody, colour_at, IsBest, IsTable, IsNext, IsNextColour, better}
 use Rattle.set_minima.specs.Packs.{with_price}
 use Rattle.set_minima.proofs.LeftOut.{single-added, single-heavy}
@@ -250,11 +250,6 @@ module _ (rest : List Order) (items : List Item) (it : AreItems rest items) (let
   turned true h k = cc
   turned false h k = cc
 
-  same : (a b : Bool) → (a ≡ true → b ≡ true) → (b ≡ true → a ≡ true) → a ≡ b
-  same true b f g = sym (f refl)
-  same false true f g = g refl
-  same false false f g = refl
-
   -- what is let in with the items before the run is let in with those up to its end
   still : (i : ℕ) → let_in rest items letting at i ≡ true → let_in rest items letting end i ≡ true
   still i h = elim (or-cases (others rest letting.before i)
@@ -287,7 +282,7 @@ module _ (rest : List Order) (items : List Item) (it : AreItems rest items) (let
   pub run-out : holds its letting.after ≡ true → (i : ℕ) → i < length rest →
       let_in rest items letting at i ≡ let_in rest items letting end i
   run-out o i b =
-      same (let_in rest items letting at i) (let_in rest items letting end i) (still i) (λ h.
+      equal-tests (let_in rest items letting at i) (let_in rest items letting end i) (still i) (λ h.
       elim (back i h) [
         | inl q ↦ q
         | inr q ↦ absurd (turned (owned rest letting.after i) q.1 (rw q.0 o))
@@ -297,7 +292,7 @@ module _ (rest : List Order) (items : List Item) (it : AreItems rest items) (let
   pub run-in : holds its letting.before ≡ false → (i : ℕ) → i < length rest →
       let_in rest items letting at i ≡ let_in rest items letting end i
   run-in o i b =
-      same (let_in rest items letting at i) (let_in rest items letting end i) (still i) (λ h.
+      equal-tests (let_in rest items letting at i) (let_in rest items letting end i) (still i) (λ h.
       elim (back i h) [
         | inl q ↦ q
         | inr q ↦ or-left (others rest letting.before i) _ (rw (q.0, o) refl)

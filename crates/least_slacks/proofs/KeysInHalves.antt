@@ -6,7 +6,6 @@ use Rattle.std.proofs.Common.{pow-suc}
 use Rattle.std.proofs.Common.{sym, ap, subst, arith, inl, inr, get_or-append-add}
 use Rattle.std.proofs.lemmas.Bool.{cases_lt}
 use Rattle.std.proofs.lemmas.List.{get_or_append_left}
-use Rattle.mill_model.specs.Prices.{least_slack}
 use Rattle.mill_model.specs.declared.order.Order.{Order}
 use Rattle.set_minima.specs.Joins.{IsSlab}
 use Rattle.std.specs.List.{All}

@@ -1,9 +1,9 @@
 -- The colours that tables leave out for some keys: a colour is left out where some key that counts
 -- has it to come. So a part of the keys leaves out no other colours, and keys with the same colours
 -- to come leave out these.
-use Rattle.std.proofs.Common.{ℕ, zero, suc, ◌+◌, ◌<◌, ◌≤◌, ◌≡◌, Bool, true, false, ◌&&◌, ◌||◌, cond, ltb}
+use Rattle.std.proofs.Common.{ℕ, zero, suc, ◌<◌, ◌≤◌, ◌≡◌, true, ◌&&◌, ◌||◌, ltb}
 use Rattle.std.proofs.Common.{List, [], ◌∷◌, length, take, drop, get_or, refl, sym, ◌∙◌, ap, subst}
-use Rattle.std.proofs.Common.{arith, inl, inr, get_or-drop, lt-ltb}
+use Rattle.std.proofs.Common.{arith, inl, inr, lt-ltb}
 use Rattle.std.proofs.lemmas.List.{get_or-take, get_or_default, length-take}
 use Rattle.list_laws.specs.Sets.{holds}
 use Rattle.list_laws.proofs.Tests.{or-cases, or-left, or-right, either, equal-tests}

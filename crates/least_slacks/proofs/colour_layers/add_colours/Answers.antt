@@ -1,5 +1,5 @@
 -- Run by run: the layers have the orders that are let in with the runs before `at`.
-use Rattle.std.proofs.Common.{◌≡◌, [], ℕ, ◌+◌, ◌-◌, ◌*◌, ◌<◌, length, get_or, pos, arith, ◌∙◌, sym}
+use Rattle.std.proofs.Common.{◌≡◌, [], ℕ, ◌+◌, ◌-◌, ◌*◌, length, get_or, pos, arith}
 use Rattle.std.proofs.Common.{Bool, true, false, not, cond, refl, map, List}
 use Rattle.list_laws.specs.Sets.{holds}
 use Rattle.mill_model.specs.Limits.{all_prices}

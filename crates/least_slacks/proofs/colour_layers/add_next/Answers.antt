@@ -2,11 +2,11 @@ use Rattle.std.proofs.Common.{◌≡◌, [], Bool, true, false, ◌&&◌, ◌||�
 use Rattle.std.proofs.Common.{refl, inl, inr, arith, ◌∙◌, ℕ, List, map, ◌⊎◌, ◌<◌, ◌-◌, get_or, pos}
 use Rattle.list_laws.specs.Sets.{holds}
 use Rattle.mill_model.specs.declared.prices.TheConstants.{MAX_PRICE}
-use Rattle.list_laws.proofs.Tests.{and-left, and-right, either}
+use Rattle.list_laws.proofs.Tests.{and-left, and-right}
 use Rattle.mill_model.specs.declared.order.Order.{Order}
-use Rattle.set_minima.specs.Packs.{nobody, colour_at}
+use Rattle.set_minima.specs.Packs.{nobody}
 use Rattle.set_minima.specs.Cells.{cell}
-use Rattle.least_slacks.specs.Items.{item_at, Letting}
+use Rattle.least_slacks.specs.Items.{item_at}
 use Rattle.least_slacks.specs.Later.{let_to}
 use Rattle.least_slacks.specs.Parts.{letting_of, out_of}
 use Rattle.set_minima.proofs.CellNumbers.{near-wider}

@@ -1,7 +1,7 @@
 -- Both halves have their least slacks from layers of their own, so the keys have theirs. With each
 -- halving the keys are half as many, and the numbers drift a little further.
-use Rattle.std.proofs.Common.{◌≡◌, ℕ, ◌+◌, ◌-◌, ◌*◌, ◌/◌, ◌^◌, ◌<◌, ◌≤◌, ◌∙◌, ◌++◌, List, length, take, drop}
-use Rattle.std.proofs.Common.{sym, ap, ap₂, subst, arith, true, get_or, pos, mul-le-mul_right}
+use Rattle.std.proofs.Common.{◌≡◌, ℕ, ◌+◌, ◌-◌, ◌*◌, ◌/◌, ◌<◌, ◌≤◌, ◌∙◌, ◌++◌, List, length}
+use Rattle.std.proofs.Common.{sym, ap₂, subst, arith, true, get_or, pos, mul-le-mul_right}
 use Rattle.std.proofs.Common.{take-append-drop}
 use Rattle.std.specs.List.{All}
 use Rattle.std.proofs.lemmas.List.Elements.{All-take, All-drop}

@@ -1,4 +1,4 @@
-use Rattle.std.proofs.Common.{◌≡◌, ◌+◌, ◌*◌, ◌≤◌, length, take, drop, arith, length-append}
+use Rattle.std.proofs.Common.{◌≡◌, ◌+◌, ◌*◌, length, take, drop, arith, length-append}
 use Rattle.std.proofs.lemmas.List.{length-take}
 use Rattle.least_slacks.specs.Later.{others_of}
 use Rattle.least_slacks.specs.Parts.{out_of}

@@ -1,13 +1,13 @@
 -- At first the empty set alone stands in each layer: no order was let in.
 use Rattle.std.proofs.Common.{◌≡◌, ℕ, zero, suc, [], ◌+◌, ◌*◌, ◌<◌, ◌∙◌, length, sym, subst, refl, ap, arith}
-use Rattle.std.proofs.Common.{true, false, Bool, cond, not, map, List, get_or, pos, zero-add}
+use Rattle.std.proofs.Common.{true, false, cond, map, get_or, pos, zero-add}
 use Rattle.list_laws.specs.Sets.{holds}
 use Rattle.mill_model.specs.Limits.{all_prices}
 use Rattle.mill_model.specs.declared.order.Order.{Order}
 use Rattle.set_minima.specs.Packs.{IsBest, nobody, colour_at}
 use Rattle.set_minima.proofs.OneColour.{layer-spread, table-none, table-empty}
 use Rattle.set_minima.proofs.OneOrder.{best-allowed}
-use Rattle.set_minima.specs.Cells.{cell, found, IsNear}
+use Rattle.set_minima.specs.Cells.{cell, found}
 use Rattle.least_slacks.specs.Items.{no_place, others}
 use Rattle.least_slacks.specs.Later.{others_of}
 use Rattle.least_slacks.specs.Parts.{letting_of, out_of}

@@ -1,5 +1,5 @@
 -- Layers as many as either shape has, and as wide, serve the keys that both serve.
-use Rattle.std.proofs.Common.{◌≡◌, ◌+◌, ◌*◌, ◌<◌, ◌≤◌, ◌⊎◌, ℕ, List, length, take, drop, arith, inl, inr}
+use Rattle.std.proofs.Common.{◌≡◌, ◌+◌, ◌*◌, ◌<◌, ◌≤◌, ◌⊎◌, length, take, drop, arith, inl, inr}
 use Rattle.std.proofs.Common.{length-append, subst, sym, get_or}
 use Rattle.std.proofs.lemmas.List.{length-take}
 use Rattle.std.proofs.lemmas.Bool.{cases_lt}
@@ -7,7 +7,6 @@ use Rattle.mill_model.specs.Limits.{all_prices}
 use Rattle.mill_model.specs.Slab.{load}
 use Rattle.least_slacks.specs.Later.{others_of, AreLayersOf}
 use Rattle.least_slacks.specs.Parts.{out_of}
-use Rattle.least_slacks.specs.declared.key.Key.{Key}
 use Rattle.least_slacks.proofs.KeysInHalves.{product, layers-in-front, near-in-front}
 use Rattle.least_slacks.proofs.halving.fill_part.Goals as goal
 

@@ -1,12 +1,11 @@
 -- What is copied has what the whole lets in.
-use Rattle.std.proofs.Common.{◌≡◌, ℕ, suc, [], ◌+◌, ◌*◌, ◌<◌, ◌≤◌, length, sym, subst, get_or, pos, arith, ap}
-use Rattle.std.proofs.Common.{mul-le-mul_right, refl, cond, map, false, List}
-use Rattle.mill_model.specs.Limits.{all_prices}
+use Rattle.std.proofs.Common.{◌≡◌, ℕ, suc, [], ◌+◌, ◌*◌, ◌<◌, ◌≤◌, length, sym, subst, arith, ap}
+use Rattle.std.proofs.Common.{mul-le-mul_right, refl, cond, map, List}
 use Rattle.mill_model.specs.declared.order.Order.{Order}
 use Rattle.set_minima.specs.Packs.{IsBest}
-use Rattle.set_minima.specs.Cells.{cell, found, IsNear, AreNearTo, AreNear}
-use Rattle.least_slacks.specs.Later.{others_of, AreLayersOf}
-use Rattle.least_slacks.specs.Parts.{letting_of, out_of}
+use Rattle.set_minima.specs.Cells.{cell, found}
+use Rattle.least_slacks.specs.Later.{others_of}
+use Rattle.least_slacks.specs.Parts.{out_of}
 use Rattle.least_slacks.proofs.halving.refill_layers.Goals as goal
 
 -- a load of a layer stands before the end of all layers

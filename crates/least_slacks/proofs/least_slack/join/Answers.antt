@@ -1,15 +1,15 @@
 -- Of a slab that takes other colours, the layer for so many of them is enough: it is the last that
 -- it may use, or it has all colours of the later orders.
-use Rattle.std.proofs.Common.{◌≡◌, ℕ, List, [], suc, ◌+◌, ◌-◌, ◌*◌, ◌<◌, ◌≤◌, ◌⊎◌, length, take, drop, arith}
+use Rattle.std.proofs.Common.{◌≡◌, ℕ, [], suc, ◌+◌, ◌-◌, ◌*◌, ◌<◌, ◌≤◌, ◌⊎◌, length, take, drop, arith}
 use Rattle.std.proofs.Common.{length-append}
-use Rattle.std.proofs.Common.{subst, sym, inl, inr, pos, mul-le-mul_right, get_or}
+use Rattle.std.proofs.Common.{subst, sym, inl, inr, pos, mul-le-mul_right}
 use Rattle.std.proofs.lemmas.List.{length-take, get_or_append_left}
 use Rattle.std.proofs.lemmas.Bool.{cases_lt}
 use Rattle.set_minima.specs.Packs.{IsBest}
 use Rattle.set_minima.specs.Joins.{all_places}
 use Rattle.set_minima.proofs.LeftOut.{layer-enough}
 use Rattle.set_minima.specs.Cells.{cell, found, IsNear}
-use Rattle.least_slacks.specs.Later.{others_of, HaveSame}
+use Rattle.least_slacks.specs.Later.{others_of}
 use Rattle.least_slacks.proofs.least_slack.join.Goals as goal
 
 pub returns-then-limits-colours-clause-joined : goal.returns-then-limits-colours-clause-joined

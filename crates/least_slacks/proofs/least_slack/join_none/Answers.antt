@@ -1,5 +1,5 @@
 -- A slab that takes no other colour: at first the empty set alone, then the orders of its colours.
-use Rattle.std.proofs.Common.{◌≡◌, ℕ, zero, suc, [], ◌<◌, not, length, sym, subst, refl, arith}
+use Rattle.std.proofs.Common.{◌≡◌, ℕ, zero, suc, [], ◌<◌, not, length, sym, subst, refl}
 use Rattle.std.proofs.Common.{true, false, Bool, ◌∙◌, zero-add}
 use Rattle.list_laws.specs.Sets.{holds}
 use Rattle.set_minima.specs.Packs.{IsBest, colour_at}
@@ -8,7 +8,6 @@ use Rattle.set_minima.proofs.OneColour.{table-none, table-empty, no-colour-allow
 use Rattle.set_minima.specs.Cells.{cell}
 use Rattle.least_slacks.specs.Items.{no_place}
 use Rattle.least_slacks.specs.Later.{others_of}
-use Rattle.set_minima.proofs.CellNumbers.{near-wider}
 use Rattle.least_slacks.proofs.least_slack.join_none.Goals as goal
 
 pub returns-clause-best : goal.returns-clause-best

@@ -1,5 +1,5 @@
 -- Key by key: the slacks before place `i` are the least.
-use Rattle.std.proofs.Common.{◌≡◌, ◌≢◌, ℕ, ℤ, List, ◌+◌, ◌<◌, ◌≤◌, ◌∙◌, get_or, set, length, pos}
+use Rattle.std.proofs.Common.{◌≡◌, ℕ, ℤ, List, ◌+◌, ◌<◌, ◌∙◌, get_or, set, length, pos}
 use Rattle.std.proofs.Common.{arith, inl, inr, sym, subst, slice_index, SFits, w64, to_z-of_z}
 use Rattle.std.proofs.Common.{rules}
 use Rattle.std.proofs.lemmas.List.{get_or_default, get_or-set_same, get_or-set_other}

@@ -1,4 +1,4 @@
-use Rattle.std.proofs.Common.{◌≡◌, ℕ, List, ◌<◌, get_or, length, pos, slice_index}
+use Rattle.std.proofs.Common.{◌≡◌, ℕ, List, ◌<◌, get_or, pos, slice_index}
 use Rattle.mill_model.specs.Prices.{least_slack}
 use Rattle.mill_model.specs.declared.order.Order.{Order}
 use Rattle.set_minima.specs.Joins.{IsSlab}

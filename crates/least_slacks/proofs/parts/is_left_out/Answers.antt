@@ -1,5 +1,5 @@
 -- Key by key: a colour that is left out is so for the keys from `i` on.
-use Rattle.std.proofs.Common.{◌≡◌, suc, ◌+◌, ◌∙◌, true, false, drop}
+use Rattle.std.proofs.Common.{◌≡◌, suc, ◌+◌, ◌∙◌, false, drop}
 use Rattle.std.proofs.Common.{ltb, ◌&&◌, get_or, refl, sym, ap, subst, arith}
 use Rattle.std.proofs.lemmas.List.{drop_all}
 use Rattle.list_laws.specs.Sets.{holds}

@@ -1,4 +1,4 @@
-use Rattle.std.proofs.Common.{◌≡◌, ℕ, List, ◌<◌, ◌+◌, get_or, arith, inl, inr, sym, subst, true, false}
+use Rattle.std.proofs.Common.{◌≡◌, ◌<◌, get_or, arith, inl, inr, subst}
 use Rattle.std.proofs.lemmas.List.{get_or_default}
 use Rattle.std.proofs.lemmas.Bool.{cases_lt}
 use Rattle.least_slacks.specs.Keys.{no_key}

@@ -1,7 +1,7 @@
 -- Where the recorded and the unclosed paths are the empty path and the children of the split ones,
 -- no path is among them twice: a child tells its parent and its last number, so it is wanted at
 -- most as often as its parent is recorded, and the empty path is nobody's child.
-use Rattle.std.proofs.Common.{ℕ, zero, suc, ◌<◌, ◌≤◌, ◌≡◌, eqb, cond, List, [], ◌∷◌}
+use Rattle.std.proofs.Common.{ℕ, zero, suc, ◌≤◌, ◌≡◌, eqb, cond, List, [], ◌∷◌}
 use Rattle.std.proofs.Common.{◌++◌, map, filter, length, refl, ap, arith, length-append, append-nil}
 use Rattle.list_laws.specs.Sets.{same_list, below, times, SameTimes}
 use Rattle.mill_model.specs.Slab.{Mill}

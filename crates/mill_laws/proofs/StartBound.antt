@@ -8,7 +8,7 @@ use Rattle.std.proofs.lemmas.Bool.{lt-ltb, le-leb}
 use Rattle.std.specs.List.{list_all}
 use Rattle.list_laws.proofs.Tests.{either, and-left, and-right, clash, last-or-below}
 use Rattle.mill_model.specs.Pairs.{IsPossibleStart, IsStartBound, first_closed, sure_tries}
-use Rattle.mill_model.specs.Plan.{numbers_each, legal_plan, loss}
+use Rattle.mill_model.specs.Plan.{legal_plan, loss}
 use Rattle.mill_model.specs.Rank.{ranked_orders}
 use Rattle.mill_model.specs.Slab.{Mill}
 use Rattle.mill_model.specs.Starts.{best_start_loss}

@@ -1,7 +1,7 @@
 -- What a node gives: its knapsack's orders, its groups' slabs, and prices within the limits all the
 -- way through the ascent and the sweep.
 use Rattle.std.proofs.Common.{ℕ, zero, suc, ◌+◌, ◌<◌, ◌≤◌, ◌≡◌, true, All, List, [], ◌∷◌, ◌++◌, length, take}
-use Rattle.std.proofs.Common.{get_or, set, length-set, ℤ, pos, ◌+ℤ◌, refl, sym, ap, ap₂, ◌∙◌, subst, arith}
+use Rattle.std.proofs.Common.{get_or, set, length-set, ℤ, pos, ◌+ℤ◌, refl, sym, ap, ◌∙◌, subst, arith}
 use Rattle.std.proofs.Common.{inl, inr, length-append}
 use Rattle.std.proofs.lemmas.Int.{ints}
 use Rattle.std.proofs.lemmas.Bool.{cases_lt}
@@ -15,14 +15,13 @@ use Rattle.mill_model.specs.Limits.{IsPrice}
 use Rattle.mill_model.specs.Plan.{slab}
 use Rattle.mill_model.specs.Prices.{least_slack}
 use Rattle.mill_model.specs.Slab.{Mill, legal}
-use Rattle.mill_model.specs.Tree.{later_orders, next_new}
 use Rattle.mill_model.specs.Bounds.{ascent, sweep, no_prices}
 use Rattle.mill_model.specs.declared.order.Order.{Order}
 use Rattle.mill_model.specs.declared.order.TheConstants.{MAX_ORDERS}
 use Rattle.mill_laws.specs.PlanLaws.{EachFits}
 use Rattle.mill_laws.specs.PriceLaws.{AreValidAt}
 use Rattle.mill_laws.proofs.Ascent.{ascent-length, least-stays}
-use Rattle.mill_laws.proofs.Paths.{tree-fits, tree-length}
+use Rattle.mill_laws.proofs.Paths.{tree-fits}
 use Rattle.mill_laws.proofs.PricesWithin.{ascent-within, sweep-within}
 use Rattle.mill_laws.proofs.Sweep.{sweep-length}
 use Rattle.set_minima.specs.Cells.{IsSmall}

@@ -1,6 +1,6 @@
 -- Prices are valid where no new slab with something in it has a slack below zero.
-use Rattle.std.proofs.Common.{ℕ, ◌≡◌, Bool, true, false, not, List, [], ◌∷◌, map, filter, ℤ, pos, ◌≤ℤ◌}
-use Rattle.std.proofs.Common.{int_le, int_lt, Option, Some, None, refl, sym, ap, arith, inl, inr}
+use Rattle.std.proofs.Common.{ℕ, ◌≡◌, Bool, true, false, not, List, [], ◌∷◌, ℤ, pos, ◌≤ℤ◌}
+use Rattle.std.proofs.Common.{int_le, int_lt, refl, ap, arith, inl, inr}
 use Rattle.std.proofs.lemmas.Int.{ints}
 use Rattle.std.specs.List.{list_any}
 use Rattle.list_laws.specs.Sets.{chosen, int_sum}

@@ -1,5 +1,5 @@
 -- The look for the least slack of the ascent ends at 0: no slack is below it.
-use Rattle.std.proofs.Common.{ℕ, ◌+◌, ◌<◌, ◌≤◌, ◌≡◌, List, [], ◌∷◌, ◌++◌, map, flat_map, length, ℤ, pos, ◌-ℤ◌}
+use Rattle.std.proofs.Common.{ℕ, ◌<◌, ◌≤◌, ◌≡◌, List, [], ◌∷◌, map, flat_map, length, ℤ, pos, ◌-ℤ◌}
 use Rattle.std.proofs.Common.{◌≤ℤ◌, Some, true, sym, subst, arith, inl, inr}
 use Rattle.std.proofs.lemmas.Int.{ints}
 use Rattle.list_laws.specs.Sets.{below}

@@ -1,6 +1,5 @@
 -- A node as pricing sees it: its later orders, prices for them, and the slacks of its groups.
-use Rattle.std.specs.Prelude.{ℕ, ◌+◌, ◌<◌, ◌≤◌, ◌≡◌, true, All, List, length, ℤ, pos, ◌≤ℤ◌, slice_index_or}
-use Rattle.list_laws.specs.Sets.{int_sum}
+use Rattle.std.specs.Prelude.{ℕ, ◌<◌, ◌≡◌, true, All, List, length, ℤ, pos, slice_index_or}
 use Rattle.mill_model.specs.Limits.{IsPrice}
 use Rattle.mill_model.specs.Prices.{least_slack, valid, worth}
 use Rattle.mill_model.specs.Bounds.{ascent_prices, swept}

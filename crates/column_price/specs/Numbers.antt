@@ -1,5 +1,5 @@
 -- The numbers of which a new price is the least, over the new slabs and the first groups.
-use Rattle.std.specs.Prelude.{ℕ, List, [], ◌++◌, map, filter, flat_map, ℤ, pos, ◌-ℤ◌, Bool, false, int_le}
+use Rattle.std.specs.Prelude.{ℕ, List, [], ◌++◌, map, filter, flat_map, ℤ, pos, ◌-ℤ◌, Bool, false}
 use Rattle.std.specs.Prelude.{int_lt, Option, Some, None}
 use Rattle.std.specs.List.{list_any}
 use Rattle.std.specs.Int.{int_min}

@@ -327,7 +327,7 @@ module _ (rest : List Order) (items : List Item) (it : AreItems rest items) (out
       (elim (among-end i (and-right (others rest out skip i) (placed items end i) h)) [
         | inl q ↦ q
         | inr q ↦ absurd (turned (owned rest out i)
-          (and-left (not (owned rest out i)) (all_but skip i) a) (rw q o))
+            (and-left (not (owned rest out i)) (all_but skip i) a) (rw q o))
       ]))
     where
       turned : (b : Bool) → not b ≡ true → b ≡ true → ⊥

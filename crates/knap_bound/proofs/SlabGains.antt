@@ -170,6 +170,7 @@ priced-small gain price near small h v e =
     go None q e = none-some v e
     go (Some x) q e =
         let s : IsSmall 20600000000000 x = h x q in
-        let w : x +ℤ price ≡ v = some-same (x +ℤ price) v e in
-        (omega (arith, ints, s.0, s.1, small.0, small.1, w),
-        omega (arith, ints, s.0, s.1, small.0, small.1, w))
+        let w : x +ℤ price ≡ v = some-same (x +ℤ price) v e in (
+          omega (arith, ints, s.0, s.1, small.0, small.1, w),
+          omega (arith, ints, s.0, s.1, small.0, small.1, w),
+        )

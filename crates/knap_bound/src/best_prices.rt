@@ -62,7 +62,7 @@ fn add_item(table: &mut [i64], packing: &Packing, item: Item)
     add_order(table, weight, packing.prices[item.place]);
 }
 
-/// Lets the order of an item of a colour that is paid for into a table, unless it is the skipped one.
+/// Lets the order of an item into a table where its colour is paid for, unless it is skipped.
 fn add_kept(table: &mut [i64], packing: &Packing, t: usize)
     requires packing { IsPacking packing.now }
     requires here { t < length packing.now.items.now }

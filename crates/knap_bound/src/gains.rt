@@ -61,13 +61,7 @@ fn clear(table: &mut [i64])
 
 /// Fills layers with the orders of the colours that aren't left out. All that stands in the tables
 /// before is written over.
-fn fill_layers(
-    tables: &mut [i64],
-    table: &mut [i64],
-    packing: &Packing,
-    out: &[u16],
-    layers: usize,
-)
+fn fill_layers(tables: &mut [i64], table: &mut [i64], packing: &Packing, out: &[u16], layers: usize)
     requires packing { IsPacking packing.now }
     requires shape { length tables.old ≡ layers * length table.old }
     requires layers { layers ≤ 9 }
@@ -183,5 +177,14 @@ pub(crate) fn greatest_gain(
     let width = largest - base + 1;
     let free = most - own.len();
     fill_front(layers, one, packing, own, free + 1, width);
-    joined_gain(&mut one[..width], layers, packing, charges, base, own, free * width, low)
+    joined_gain(
+        &mut one[..width],
+        layers,
+        packing,
+        charges,
+        base,
+        own,
+        free * width,
+        low,
+    )
 }

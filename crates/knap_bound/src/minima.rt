@@ -42,8 +42,8 @@ pub fn least_new(
 }
 
 /// The least slack of the orders on a slab over the sets of orders of rank `from` or later that may
-/// join it and hold the forced one, if there is one; else the empty set counts too. `prices` has one
-/// for each rank from `from` on. None where the forced order can't join.
+/// join it and hold the forced one. Where none is forced, the empty set counts too. `prices` has
+/// one for each rank from `from` on. None where the forced order can't join.
 pub fn least_on(
     alloc: Global,
     ranked: &Ranked,

@@ -1,5 +1,5 @@
 -- The groups' slacks at prices of zero stay, so that they serve for the worth.
-use Rattle.std.proofs.Common.{◌≡◌, ◌∙◌, ℕ, ℤ, List, replicate, pos, length, ap, sym, subst, SFits, w64}
+use Rattle.std.proofs.Common.{◌∙◌, ℤ, List, pos, length, ap, sym, subst, SFits, w64}
 use Rattle.std.proofs.Common.{to_z-of_z, rules}
 use Rattle.std.proofs.lemmas.List.Elements.{All-replicate}
 use Rattle.mill_model.specs.Charges.{charge_of}

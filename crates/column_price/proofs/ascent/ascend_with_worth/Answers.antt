@@ -1,4 +1,4 @@
-use Rattle.std.proofs.Common.{◌≡◌, ◌++◌, ℤ, List, [], take, drop, length, sym, subst, rules, arith, All}
+use Rattle.std.proofs.Common.{◌≡◌, ◌++◌, ℤ, List, [], drop, length, sym, subst, rules, arith, All}
 use Rattle.std.proofs.lemmas.List.{drop_all}
 use Rattle.std.proofs.lemmas.List.Elements.{All-take, All-append, All-nil}
 use Rattle.mill_model.specs.Limits.{IsPrice}

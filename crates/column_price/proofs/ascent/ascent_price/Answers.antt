@@ -1,5 +1,5 @@
 -- Group by group: the best so far is the least of the new slabs' slacks and the first groups'.
-use Rattle.std.proofs.Common.{◌≡◌, ℕ, suc, ◌+◌, ◌++◌, [], ℤ, List, Some, length, get_or, pos, arith, rules}
+use Rattle.std.proofs.Common.{◌≡◌, ℕ, suc, ◌+◌, ℤ, List, Some, get_or, pos, arith, rules}
 use Rattle.std.proofs.Common.{ap, ◌∙◌, sym, subst, SFits, w64, to_z-of_z, append-nil}
 use Rattle.mill_model.specs.Charges.{charge_of}
 use Rattle.mill_model.specs.Bounds.{least_of, or_zero, first_slack, least_on_with, least_new_with}
@@ -8,12 +8,12 @@ use Rattle.mill_model.specs.Tree.{next_new}
 use Rattle.mill_model.specs.Slab.{Mill}
 use Rattle.mill_model.specs.declared.order.Order.{Order}
 use Rattle.order_symmetry.specs.Ranked.{orders_of}
-use Rattle.split_tree.specs.Node.{IsGroup, group_of}
+use Rattle.split_tree.specs.Node.{group_of}
 use Rattle.split_tree.proofs.Losses.{group-at}
 use Rattle.knap_bound.specs.Later.{Later}
 use Rattle.column_price.specs.Nodes.{IsAt, AreSlacks, rest_of}
 use Rattle.column_price.specs.Numbers.{ascent_numbers, new_slacks, lesser, less}
-use Rattle.column_price.proofs.AtNode.{at-node, as-many-prices, slab-mill, slabs}
+use Rattle.column_price.proofs.AtNode.{at-node, slab-mill, slabs}
 use Rattle.column_price.proofs.LeastOfParts.{ascent-more}
 use Rattle.column_price.proofs.ZeroEnds.{zero-ends}
 use Rattle.column_price.proofs.ascent.ascent_price.Goals as goal

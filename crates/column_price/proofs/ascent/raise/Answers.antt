@@ -1,5 +1,5 @@
 -- Price by price: the first ones are the ascent's, the others still zero.
-use Rattle.std.proofs.Common.{◌≡◌, ◌≤◌, ℤ, List, length, arith, ap, sym, subst}
+use Rattle.std.proofs.Common.{◌≤◌, ℤ, List, length, arith, ap, sym, subst}
 use Rattle.mill_model.specs.Slab.{Mill}
 use Rattle.mill_laws.proofs.Ascent.{zeros-length}
 use Rattle.column_price.specs.Nodes.{AreFor, rest_of}
@@ -11,8 +11,12 @@ ascent_price-requires-clause-prices c =
     let node = c.args.node.now in
     let start = c.args.knapsack.now in
     let some : 1 ≤ node.ranked.mill.most_colours =
-    omega (arith, c.requires.at.limits.some_colour, ap (λ (m : Mill). m.most_colours)
-    (its-mill node start c.requires.at)) in
+    omega (
+      arith,
+      c.requires.at.limits.some_colour,
+      ap (λ (m : Mill). m.most_colours)
+          (its-mill node start c.requires.at),
+    ) in
     subst (λ (ys : List ℤ). AreFor node ys) (sym c.loop-i.invariant.raised)
     (ascent-for node c.requires.node some c.requires.fits start.charges c.loop-i.i
     (omega (
@@ -27,8 +31,12 @@ returns-clause-for_node c =
     let node = c.args.node.now in
     let start = c.args.knapsack.now in
     let some : 1 ≤ node.ranked.mill.most_colours =
-    omega (arith, c.requires.at.limits.some_colour, ap (λ (m : Mill). m.most_colours)
-    (its-mill node start c.requires.at)) in
+    omega (
+      arith,
+      c.requires.at.limits.some_colour,
+      ap (λ (m : Mill). m.most_colours)
+          (its-mill node start c.requires.at),
+    ) in
     subst (λ (ys : List ℤ). AreFor node ys) (sym c.loop-i.invariant.raised)
     (ascent-for node c.requires.node some c.requires.fits start.charges c.loop-i.i
     (omega (

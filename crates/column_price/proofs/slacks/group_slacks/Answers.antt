@@ -1,5 +1,5 @@
 -- Group by group: the slacks so far are those of the first groups.
-use Rattle.std.proofs.Common.{◌≡◌, ℕ, ◌+◌, ◌++◌, ◌∷◌, [], ℤ, List, length, get_or, pos, arith, rules, ap}
+use Rattle.std.proofs.Common.{◌≡◌, ℕ, ◌+◌, ◌++◌, ◌∷◌, [], List, length, arith, rules, ap}
 use Rattle.std.proofs.Common.{◌∙◌, sym, subst, length-append, SFits, w64, to_z-of_z}
 use Rattle.std.proofs.lemmas.List.Elements.{All-push, All-same}
 use Rattle.mill_model.specs.Charges.{charge_of}
@@ -7,7 +7,7 @@ use Rattle.mill_model.specs.Prices.{least_slack}
 use Rattle.mill_model.specs.declared.order.Order.{Order}
 use Rattle.mill_model.specs.Slab.{Mill}
 use Rattle.set_minima.specs.Cells.{IsSmall}
-use Rattle.split_tree.specs.Node.{IsGroup, group_of}
+use Rattle.split_tree.specs.Node.{group_of}
 use Rattle.split_tree.proofs.Losses.{group-at}
 use Rattle.split_tree.proofs.Nodes.{few-groups}
 use Rattle.column_price.specs.Nodes.{rest_of}

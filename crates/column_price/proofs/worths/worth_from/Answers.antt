@@ -1,5 +1,4 @@
-use Rattle.std.proofs.Common.{◌≡◌, ◌+ℤ◌, ap₂, ◌∙◌, SFits, w64, to_z-of_z, rules, arith}
-use Rattle.std.proofs.lemmas.Int.{ints}
+use Rattle.std.proofs.Common.{◌+ℤ◌, ap₂, ◌∙◌, SFits, w64, to_z-of_z, rules, arith}
 use Rattle.std.proofs.lemmas.List.Elements.{All-weaker}
 use Rattle.mill_model.specs.Limits.{IsPrice}
 use Rattle.set_minima.specs.Cells.{IsSmall}

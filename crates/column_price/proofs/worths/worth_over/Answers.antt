@@ -1,12 +1,12 @@
 -- Valid just where the least slack of a new slab isn't below zero.
-use Rattle.std.proofs.Common.{◌≡◌, ◌∙◌, ℕ, ℤ, List, Option, true, false, not, ap, sym, subst, SFits, w64}
+use Rattle.std.proofs.Common.{◌∙◌, ℕ, ℤ, List, Option, not, ap, sym, subst, SFits, w64}
 use Rattle.std.proofs.Common.{to_z-of_z, rules}
 use Rattle.mill_model.specs.Charges.{charge_of}
 use Rattle.mill_model.specs.Bounds.{least_new}
 use Rattle.mill_model.specs.Slab.{Mill}
 use Rattle.mill_model.specs.declared.order.Order.{Order}
 use Rattle.knap_bound.specs.Later.{Later}
-use Rattle.column_price.specs.Nodes.{AreSlacks, rest_of, worth_at}
+use Rattle.column_price.specs.Nodes.{AreSlacks, rest_of}
 use Rattle.column_price.specs.Numbers.{is_negative}
 use Rattle.column_price.proofs.AtNode.{at-node}
 use Rattle.column_price.proofs.ValidByLeast.{valid-is}

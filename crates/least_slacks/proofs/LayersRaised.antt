@@ -146,7 +146,8 @@ module _ (rest : List Order) (prices : List ℤ) (items : List Item) (letting : 
     | inl e ↦ (let z : s ≡ 0 = omega arith in
         let f : IsBest (let_in rest items letting at) [] s rest prices l
         (cell tables (s * width + l)) = old-layer t tables o s e a l b in
-        layer-keep rest (let_in rest items letting at) (let_in rest items letting end) [] colour run.next
+        layer-keep rest (let_in rest items letting at) (let_in rest items letting end) [] colour
+        run.next
         refl prices s l (cell tables (s * width + l)) z f)
     | inr e ↦ d s e a l b
   ]

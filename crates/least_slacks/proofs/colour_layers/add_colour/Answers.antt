@@ -84,7 +84,8 @@ loop-t-preserved c =
 
 pub returns-clause-best : goal.returns-clause-best
 returns-clause-best c letting colour run layered =
-    done-last c.args.later.now.rest.now c.args.later.now.prices.now c.args.later.now.items.now letting
+    done-last c.args.later.now.rest.now c.args.later.now.prices.now c.args.later.now.items.now
+    letting
     c.args.run.0 c.args.run.1
     colour c.args.layers (length c.args.table.now) run c.args.tables.now layered
     c.loop-t.tables c.loop-t.t (omega (arith, c.loop-t-test.false))

@@ -6,7 +6,8 @@ use Rattle.std.proofs.Common.{ap, ◌∙◌, subst, arith, inl, inr}
 use Rattle.std.proofs.lemmas.Bool.{cases_lt}
 use Rattle.list_laws.specs.Sets.{holds}
 use Rattle.mill_model.specs.declared.order.Order.{Order}
-use Rattle.list_laws.proofs.Tests.{and-left, and-right, either, or-cases, or-left, or-right, clash, equal-tests}
+use Rattle.list_laws.proofs.Tests.{and-left, and-right, either, or-cases, or-left, or-right, clash}
+use Rattle.list_laws.proofs.Tests.{equal-tests}
 use Rattle.set_minima.specs.Packs.{nobody, colour_at, IsBest, IsTable, IsNext, IsNextColour, better}
 use Rattle.set_minima.specs.Packs.{with_price}
 use Rattle.set_minima.proofs.LeftOut.{single-added, single-heavy}
@@ -348,20 +349,24 @@ layer-single rest prices items it same letting t colour k width h run below here
     let w : holds (colour_at rest j) letting.before ≡ true = rw its run.was_out in
     let n : holds (colour_at rest j) letting.after ≡ false = rw its run.not_out in
     let next = next-let_in rest items it letting t h w n in
-    let from_run : IsNextColour rest (let_in rest items letting t) (let_in rest items letting (t + 1))
+    let from_run : IsNextColour rest (let_in rest items letting t) (let_in rest items letting (t +
+    1))
     (colour_at rest j) =
-    subst (λ c. IsNextColour rest (let_in rest items letting t) (let_in rest items letting (t + 1)) c)
+    subst (λ c. IsNextColour rest (let_in rest items letting t) (let_in rest items letting (t + 1))
+    c)
     (sym its) run.next in
     elim (either (leb (get_or rest j nobody).weight l)) [
       | inl s ↦ subst (λ x. IsBest (let_in rest items letting (t + 1)) [] (suc k) rest prices l x)
           (sym (rw s at (e l b)))
-          (single-added rest (let_in rest items letting t) (let_in rest items letting (t + 1)) [] prices
+          (single-added rest (let_in rest items letting t) (let_in rest items letting (t + 1)) []
+          prices
           same j inside next from_run refl k l (leb-true _ _ s) (here l) (below l)
           (below (l - (get_or rest j nobody).weight)) (q l b) (p l b)
           (p (l - (get_or rest j nobody).weight) (omega arith)))
       | inr s ↦ subst (λ x. IsBest (let_in rest items letting (t + 1)) [] (suc k) rest prices l x)
           (sym (rw s at (e l b)))
-          (single-heavy rest (let_in rest items letting t) (let_in rest items letting (t + 1)) [] prices
+          (single-heavy rest (let_in rest items letting t) (let_in rest items letting (t + 1)) []
+          prices
           same j inside next from_run refl k l (leb-false _ _ s) (here l) (below l) (q l b)
           (p l b))
     ]

@@ -1,7 +1,9 @@
 -- The least slacks of keys are those of both halves, one behind the other. Layers for some keys
 -- serve each of them, where all of these have the same colours to come.
-use Rattle.std.proofs.Common.{ℕ, zero, suc, ◌+◌, ◌-◌, ◌*◌, ◌/◌, ◌^◌, ◌<◌, ◌≤◌, ◌≡◌, ◌∙◌, Bool, not, List, [], ◌++◌}
-use Rattle.std.proofs.Common.{length, length-append, get_or, ℤ, pos, mul-le-mul_left, mul-le-mul_right}
+use Rattle.std.proofs.Common.{ℕ, zero, suc, ◌+◌, ◌-◌, ◌*◌, ◌/◌, ◌^◌, ◌<◌, ◌≤◌, ◌≡◌, ◌∙◌, Bool, not}
+use Rattle.std.proofs.Common.{List, [], ◌++◌}
+use Rattle.std.proofs.Common.{length, length-append, get_or, ℤ, pos, mul-le-mul_left}
+use Rattle.std.proofs.Common.{mul-le-mul_right}
 use Rattle.std.proofs.Common.{pow-suc}
 use Rattle.std.proofs.Common.{sym, ap, subst, arith, inl, inr, get_or-append-add}
 use Rattle.std.proofs.lemmas.Bool.{cases_lt}

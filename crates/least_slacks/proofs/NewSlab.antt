@@ -1,7 +1,8 @@
 -- The slack of a new slab, which stands behind those of the keys: the prices are valid where it is
 -- not below 0.
 use Rattle.std.proofs.Common.{◌≡◌, ℕ, zero, suc, ◌+◌, ◌≤◌, ◌∙◌, false, List, [], ◌∷◌, ◌++◌}
-use Rattle.std.proofs.Common.{length, length-append, take, get_or, replicate, eqb, ne_eqb, ℤ, pos, int_le}
+use Rattle.std.proofs.Common.{length, length-append, take, get_or, replicate, eqb, ne_eqb, ℤ, pos}
+use Rattle.std.proofs.Common.{int_le}
 use Rattle.std.proofs.Common.{refl, sym, ap, subst, arith, slice_index}
 use Rattle.std.specs.List.{All}
 use Rattle.std.proofs.lemmas.List.{length-take, get_or-take, get_or_append_left}

@@ -1,5 +1,6 @@
 -- Keys that tables serve: which colours the tables leave out for them, and how large they are.
-use Rattle.std.specs.Prelude.{ℕ, ◌+◌, ◌-◌, ◌*◌, ◌<◌, ◌≤◌, ◌≡◌, ◌⊎◌, true, cond, ltb, ◌++◌, List, [], ◌∷◌}
+use Rattle.std.specs.Prelude.{ℕ, ◌+◌, ◌-◌, ◌*◌, ◌<◌, ◌≤◌, ◌≡◌, ◌⊎◌, true, cond, ltb, ◌++◌, List, []}
+use Rattle.std.specs.Prelude.{◌∷◌}
 use Rattle.std.specs.Prelude.{All, length, map, ℤ}
 use Rattle.list_laws.specs.Sets.{holds}
 use Rattle.mill_model.specs.Limits.{all_prices}
@@ -17,7 +18,8 @@ use Rattle.least_slacks.specs.declared.parts.Shape.{Shape}
 -- the colours to come of the keys whose slabs may take another colour
 abbrev pub out_of : ℕ → List Key → List ℕ
 out_of most [] = []
-out_of most (key ∷ keys) = cond (ltb key.colours most) (key.coming ++ out_of most keys) (out_of most keys)
+out_of most (key ∷ keys) = cond (ltb key.colours most) (key.coming ++ out_of most keys) (out_of
+    most keys)
 
 -- what is let in for a part: at first all colours but those of its keys, else those alone that are
 -- left out for the whole

@@ -3,8 +3,10 @@
 // colours are let that the other half alone leaves out; and so on, down to keys that name the same
 // colours. So a colour is let in as often as the keys can be halved, and not once for each key.
 
-ghost use Rattle.std.specs.Prelude.{◌≡◌, ℕ, ◌+◌, ◌*◌, ◌^◌, ◌<◌, ◌≤◌, ◌++◌, ◌∷◌, [], true, false, All};
-ghost use Rattle.std.specs.Prelude.{IfOk, OnOk, IfSome, IfNone, length, slice_index, slice_index_or, pos};
+ghost use Rattle.std.specs.Prelude.{◌≡◌, ℕ, ◌+◌, ◌*◌, ◌^◌, ◌<◌, ◌≤◌, ◌++◌, ◌∷◌, [], true, false};
+ghost use Rattle.std.specs.Prelude.{All};
+ghost use Rattle.std.specs.Prelude.{IfOk, OnOk, IfSome, IfNone, length, slice_index};
+ghost use Rattle.std.specs.Prelude.{slice_index_or, pos};
 ghost use Rattle.mill_model.specs.Instance.{IsOrder};
 ghost use Rattle.mill_model.specs.Limits.{IsPrice, all_prices};
 ghost use Rattle.mill_model.specs.Prices.{valid};

@@ -1,5 +1,5 @@
-// Which colours tables leave out: those that come again of the keys that they serve. A key whose slab
-// may take no other colour needs no tables of other orders, and counts for nothing here.
+// Which colours tables leave out: those that come again of the keys that they serve. A key whose
+// slab may take no other colour needs no tables of other orders, and counts for nothing here.
 
 ghost use Rattle.std.specs.Prelude.{◌≡◌, ◌<◌, ◌≤◌, ◌+◌, ◌||◌, ◌&&◌, not, true, false, ltb, All};
 ghost use Rattle.std.specs.Prelude.{length};

@@ -51,7 +51,8 @@ loop-t-preserved c = record {
       table-width c.args.later.now.rest.now c.args.later.now.prices.now then (colour ∷ []) k
       (length c.loop-t.table) (length c.args.table.now) (cell c.add_item.new.table) w
       (c.add_item.ensures.best now then (colour ∷ []) k
-      (next-let_in c.args.later.now.rest.now c.args.later.now.items.now c.requires.later.sorted letting
+      (next-let_in c.args.later.now.rest.now c.args.later.now.items.now c.requires.later.sorted
+      letting
       t (omega arith) was n)
       paid (table-width c.args.later.now.rest.now c.args.later.now.prices.now now (colour ∷ []) k
       (length c.args.table.now) (length c.loop-t.table) (cell c.loop-t.table) (sym w)
@@ -67,7 +68,8 @@ loop-t-preserved c = record {
 pub returns-clause-best : goal.returns-clause-best
 returns-clause-best c letting colour k run p =
     let e : c.loop-t.t ≡ c.args.end = omega (arith, c.loop-t.auto.t-end, c.requires.order) in
-    subst (λ t. IsTableOf c.args.later.now (let_to c.args.later.now letting t) (colour ∷ []) k (length
+    subst (λ t. IsTableOf c.args.later.now (let_to c.args.later.now letting t) (colour ∷ []) k
+    (length
     c.args.table.now) (cell c.loop-t.table)) e
     (c.loop-t.invariant.best letting colour k run p)
 

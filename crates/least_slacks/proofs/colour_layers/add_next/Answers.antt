@@ -1,4 +1,5 @@
-use Rattle.std.proofs.Common.{◌≡◌, [], Bool, true, false, ◌&&◌, ◌||◌, not, cond, length, sym, ◌+◌, ◌*◌}
+use Rattle.std.proofs.Common.{◌≡◌, [], Bool, true, false, ◌&&◌, ◌||◌, not, cond, length, sym, ◌+◌}
+use Rattle.std.proofs.Common.{◌*◌}
 use Rattle.std.proofs.Common.{refl, inl, inr, arith, ◌∙◌, ℕ, List, map, ◌⊎◌, ◌<◌, ◌-◌, get_or, pos}
 use Rattle.list_laws.specs.Sets.{holds}
 use Rattle.mill_model.specs.declared.prices.TheConstants.{MAX_PRICE}

@@ -38,7 +38,8 @@ pub returns-clause-near : goal.returns-clause-near
 returns-clause-near c n h =
     let width = length c.args.table.now in
     let n1 : length c.copy_layer.new.table ≡ width = c.copy_layer.auto.table in
-    near-layer n (n + (c.args.run.1 - c.args.run.0) * MAX_PRICE) (c.args.t * width) c.args.tables.now
+    near-layer n (n + (c.args.run.1 - c.args.run.0) * MAX_PRICE) (c.args.t * width)
+    c.args.tables.now
     c.better_layer.new.tables c.add_run.new.table (omega arith) h
     (c.add_run.ensures.near n (near-copied n ((c.args.t - 1) * width) c.args.tables.now
     c.copy_layer.new.table (λ l b. c.copy_layer.ensures l (omega arith)) h))

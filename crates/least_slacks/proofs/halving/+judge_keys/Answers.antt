@@ -12,7 +12,8 @@ use Rattle.least_slacks.specs.Keys.{AreLeast, IsInside}
 use Rattle.least_slacks.specs.Parts.{ServesAll, Serves, drift, out_of}
 use Rattle.least_slacks.specs.declared.key.Key.{Key}
 use Rattle.set_minima.proofs.CellNumbers.{near-wider}
-use Rattle.least_slacks.proofs.KeysInHalves.{all-served, half-each, least-append, one-less, some-levels}
+use Rattle.least_slacks.proofs.KeysInHalves.{all-served, half-each, least-append, one-less}
+use Rattle.least_slacks.proofs.KeysInHalves.{some-levels}
 use Rattle.least_slacks.proofs.KeysLeftOut.{out-take, out-drop}
 use Rattle.least_slacks.proofs.halving.+judge_keys.Goals as goal
 
@@ -150,7 +151,12 @@ judge_keys-requires-2 t c =
                     ),
                     (
                       omega (arith, c.requires.levels.0),
-                      omega (arith, c.split_at.ensures.back_len, c.split_at.ensures.front_len, half.1),
+                      omega (
+                        arith,
+                        c.split_at.ensures.back_len,
+                        c.split_at.ensures.front_len,
+                        half.1,
+                      ),
                     ),
                   ),
                 ),

@@ -24,7 +24,12 @@ returns-clause-filled c =
       some = its.some;
       narrow = its.narrow;
       inside =
-          omega (arith, long, length-append c.fill_layers.new.tables (drop whole c.args.tables.now));
+          omega (
+            arith,
+            long,
+            length-append c.fill_layers.new.tables (drop whole
+                c.args.tables.now),
+          );
       serves = its.serves;
       filled =
           layers-in-front c.args.later.now

@@ -1,5 +1,6 @@
 -- At first the empty set alone stands in each layer: no order was let in.
-use Rattle.std.proofs.Common.{◌≡◌, ℕ, zero, suc, [], ◌+◌, ◌*◌, ◌<◌, ◌∙◌, length, sym, subst, refl, ap, arith}
+use Rattle.std.proofs.Common.{◌≡◌, ℕ, zero, suc, [], ◌+◌, ◌*◌, ◌<◌, ◌∙◌, length, sym, subst, refl}
+use Rattle.std.proofs.Common.{ap, arith}
 use Rattle.std.proofs.Common.{true, false, cond, map, get_or, pos, zero-add}
 use Rattle.list_laws.specs.Sets.{holds}
 use Rattle.mill_model.specs.Limits.{all_prices}

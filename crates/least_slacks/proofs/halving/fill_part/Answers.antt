@@ -55,10 +55,12 @@ returns-clause-filled c =
             wide = elim (cases_lt c.shape_for-need.result.width c.args.from.now.shape.width) [
               | inl q ↦ subst (λ z. (c.args.limits.now.largest
                   < (get_or c.args.part.now.keys.now k d).load + z)
-                  ⊎ (load c.args.later.now.rest.now < z)) (omega (arith, c.min-width.ensures)) a.wide
+                  ⊎ (load c.args.later.now.rest.now < z)) (omega (arith, c.min-width.ensures))
+                  a.wide
               | inr q ↦ subst (λ z. (c.args.limits.now.largest
                   < (get_or c.args.part.now.keys.now k d).load + z)
-                  ⊎ (load c.args.later.now.rest.now < z)) (omega (arith, c.min-width.ensures)) b.wide
+                  ⊎ (load c.args.later.now.rest.now < z)) (omega (arith, c.min-width.ensures))
+                  b.wide
             ];
           });
       filled =

@@ -1,5 +1,7 @@
-use Rattle.std.proofs.Common.{◌≡◌, ◌∙◌, ◌++◌, ◌∷◌, [], List, length, take, drop, ℕ, zero, suc, refl, arith, rules, inl, inr, pos, ℤ}
-use Rattle.std.proofs.Common.{int_le, int_lt, true, false, sym, ap, subst, get_or, SFits, w64, to_z-of_z}
+use Rattle.std.proofs.Common.{◌≡◌, ◌∙◌, ◌++◌, ◌∷◌, [], List, length, take, drop, ℕ, zero, suc, refl}
+use Rattle.std.proofs.Common.{arith, rules, inl, inr, pos, ℤ}
+use Rattle.std.proofs.Common.{int_le, int_lt, true, false, sym, ap, subst, get_or, SFits, w64}
+use Rattle.std.proofs.Common.{to_z-of_z}
 use Rattle.std.proofs.lemmas.Int.{ints}
 use Rattle.std.proofs.lemmas.Bool.{cases_lt}
 use Rattle.std.proofs.lemmas.List.{get_or_past}
@@ -83,6 +85,7 @@ returns-clause-some c =
           c.requires.orders
           ∙ ap (int_le (pos 0)) (sym at) ∙ not-negative c.slack_at-slack.result above,
       subst (λ (xs : List ℤ). AreLeast c.args.limits.now c.args.rest.now c.args.prices.now keys xs)
-          (sym (c.truncate.ensures.items ∙ ap (take (length keys)) (sym c.deref-4.ensures.value ∙ same)))
+          (sym (c.truncate.ensures.items ∙ ap (take (length keys)) (sym c.deref-4.ensures.value ∙
+          same)))
           (least-front c.args.limits.now c.args.rest.now c.args.prices.now keys slacks all),
     )

@@ -1,6 +1,7 @@
 -- Of a slab that takes other colours, the layer for so many of them is enough: it is the last that
 -- it may use, or it has all colours of the later orders.
-use Rattle.std.proofs.Common.{◌≡◌, ℕ, [], suc, ◌+◌, ◌-◌, ◌*◌, ◌<◌, ◌≤◌, ◌⊎◌, length, take, drop, arith}
+use Rattle.std.proofs.Common.{◌≡◌, ℕ, [], suc, ◌+◌, ◌-◌, ◌*◌, ◌<◌, ◌≤◌, ◌⊎◌, length, take, drop}
+use Rattle.std.proofs.Common.{arith}
 use Rattle.std.proofs.Common.{length-append}
 use Rattle.std.proofs.Common.{subst, sym, inl, inr, pos, mul-le-mul_right}
 use Rattle.std.proofs.lemmas.List.{length-take, get_or_append_left}

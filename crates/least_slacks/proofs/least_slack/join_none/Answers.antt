@@ -17,7 +17,8 @@ returns-clause-best c own once same =
     let allowed = others_of c.args.later.now c.args.out.now in
     let v : length c.clear.new.table ≡ length c.args.table.now = c.clear.auto.table in
     let best = rw v at (c.add_left_out.ensures.best own (length own) same) in
-    best (λ l b. subst (λ z. IsBest allowed own z rest prices l (cell c.clear.new.table l)) (zero-add (length own))
+    best (λ l b. subst (λ z. IsBest allowed own z rest prices l (cell c.clear.new.table l))
+    (zero-add (length own))
     (colours-paid rest allowed prices 0 l own (cell c.clear.new.table l) once
     (λ i q a. same i q ∙ turned (holds (colour_at rest i) c.args.out.now) a)
     (no-colour-allowed rest no_place allowed prices l (cell c.clear.new.table l)

@@ -14,8 +14,8 @@ use order_symmetry::Ranked;
 use plan_walk::better_plan;
 use std::alloc::Global;
 
-/// Walks from a plan through others, some of which lose as much, and gives the last one where it
-/// loses less than the start; else the start itself.
+/// Walks from a plan through others, none of which loses more than the one before, and gives the
+/// last one where it loses less than the start; else the start itself.
 ///
 /// The walk takes so many steps, each of which lays a few slabs anew, by numbers that are the same
 /// in each run. It ends before where nothing is lost.

@@ -33,8 +33,8 @@ pub fn read_all<S: Source>(
     ensures end { OnOk result (IsAtEnd (S.left source.new)) }
     ensures within { IfOk result (λ bytes. vec_len bytes ≤ limit) }
 
-    // What is read is what the reads gave, and the last of them found the end. Whatever the answer
-    // is, they gave all that was lost.
+    // What is read is what the reads gave, and the source is at its end. Whatever the answer is,
+    // they gave all that was lost.
     ensures given { IfOk result (λ bytes.
         S.given source.new ≡ S.given source.old ++ bytes.items) }
     ensures ended { OnOk result (S.ended source.new) }

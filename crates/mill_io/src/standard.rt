@@ -112,7 +112,7 @@ impl<W: Write> Sink for StdSink<W> {
             (W.contents (writer_of self.old)) (W.contents (writer_of self.new)) }
         ensures cause { HasCause (write_faults self.old) (write_faults self.new) result }
 
-        // So does the writer, where it tells what it holds.
+        // What was taken, the writer holds too, if it tells what it holds.
         ensures inner_ok { OnOk result (Appends (W.contents (writer_of self.old))
             (W.contents (writer_of self.new)) piece.now) }
         ensures inner_err { OnErr result (AppendsFront (W.contents (writer_of self.old))

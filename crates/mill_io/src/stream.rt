@@ -40,7 +40,7 @@ pub trait Sink {
     // The bytes that were written, where they are told.
     ghost written: { Self → Option (List ℕ) };
 
-    // The bytes that are held where they went, where that is told.
+    // What is held at the place that the bytes go to, if that is told.
     ghost held: { Self → Option (List ℕ) };
 
     // How many writes failed.

@@ -117,8 +117,8 @@ pub fn run_plain<S: Source, K: Sink>(
         × Agree written output
         × Appends (K.written sink.old) (K.written sink.new) (text_of written) }
 
-    // Whether the bytes to come are told or not, as those of the real input, all this is so of the
-    // bytes that the reads of this call gave.
+    // The same is so of the bytes that the reads of this call gave, which are told always, even of
+    // the real input.
     ensures given { IsAnswered result → (input : List ℕ) × (output : Output)
         × (S.given source.new ≡ S.given source.old ++ input)
         × IsServedWhole (texts words.now) input (S.ended source.new) output

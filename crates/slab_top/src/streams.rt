@@ -20,14 +20,18 @@ use std::io::{Read, Write};
 /// and the status that the program ends with.
 #[derive(Drop)]
 pub struct RunEnd<R: Read, W: Write> {
+    /// The source over the reader, which tells the bytes that its reads gave.
     pub source: StdSource<R>,
+    /// The sink over the writer, which tells the bytes that it took.
     pub sink: StdSink<W>,
+    /// What the program is to end with.
     pub status: u8,
 }
 
 /// Serves what the words ask for, from any reader of std to any writer of std. No clause can say
 /// what the real input and output hold, so these speak of the bytes that the reads gave and the
-/// writes took. The statuses are those of [`run_plain`].
+/// writes took. The statuses are those of [`run_plain`]. Nothing is flushed, so the writer is to be
+/// one that keeps no bytes back.
 pub fn run_streams<R: Read, W: Write>(
     alloc: Global,
     words: &[String],
@@ -50,15 +54,19 @@ pub fn run_streams<R: Read, W: Write>(
     ensures enough { HasEnough (texts words.now) (bytes_given result.source)
         → result.status ≢ FEASIBLE }
 
+    // Where the words ask for nothing, the reader is as it was.
     ensures unread { ((job : Job) → AskFor (texts words.now) job → ⊥)
         → bytes_given result.source ≡ [] }
+    ensures untouched { ((job : Job) → AskFor (texts words.now) job → ⊥)
+        → reader_of result.source ≡ reader }
     ensures known { IsStatus result.status }
 
-    // The statuses of the two faults come exactly where a read or a write failed.
+    // The statuses of the two faults come exactly where a stream counted a fault.
     ensures read_fault { result.status ≡ READ_FAULT ↔ read_faults result.source ≢ 0 }
     ensures write_fault { result.status ≡ WRITE_FAULT ↔ write_faults result.sink ≢ 0 }
 
-    // A front of such an output was written where a write failed, and nothing at other failures.
+    // A front of the text of such an output was written at a failed write, and nothing at other
+    // failures.
     ensures front { result.status ≡ WRITE_FAULT → (output : Output) × (rest : List ℕ)
         × IsServedWhole (texts words.now) (bytes_given result.source) (HasEnded result.source)
         output
@@ -68,8 +76,8 @@ pub fn run_streams<R: Read, W: Write>(
     ensures memory_for { result.status ≡ OUT_OF_MEMORY →
         (job : Job) × AskFor (texts words.now) job }
 
-    // Nothing was read or written beside: where the reader tells what is to come, it lost just what
-    // was given, and where the writer tells what it holds, that grew by just what was taken.
+    // Nothing was read or written beside. A reader that tells what is to come lost just what was
+    // given; a writer that tells what it holds grew by just what was taken.
     ensures reader { Consumes (R.remaining reader) (R.remaining (reader_of result.source))
         (bytes_given result.source) }
     ensures writer { Appends (W.contents writer) (W.contents (writer_of result.sink))

@@ -10,7 +10,7 @@ use Rattle.mill_model.specs.Rank.{rank}
 use Rattle.mill_model.specs.Slab.{Mill}
 use Rattle.mill_model.specs.declared.order.Order.{Order}
 use Rattle.mill_model.specs.declared.plan.Start.{Start}
-use Rattle.mill_model.proofs.Sizes.{same_sizes}
+use Rattle.mill_model.proofs.RisingLists.{same_sizes}
 use Rattle.order_symmetry.specs.Ranked.{RankedOrders, IsRanked}
 use Rattle.large_moves.specs.Coloured.{orders_of, plan_of, IsByColour}
 use Rattle.large_moves.specs.Moved.{IsStart, IsWalked}

@@ -3,8 +3,9 @@ ghost use Rattle.std.specs.Prelude.{◌≡◌, true, All, IfOk};
 ghost use Rattle.mill_model.specs.Tree.{in_tree};
 ghost use Rattle.order_symmetry.specs.Ranked.{orders_of};
 
-use crate::paths::{ROUNDS, Tally, pop_all, three_orders, two_paths};
-use mill_model::{OutOfMemory, Path};
+use mill_model::{Instance, Order, OutOfMemory, Path};
+use order_symmetry::Ranked;
+use split_tree::NodeState;
 use std::alloc::Global;
 use std::test::Fail;
 use std::thread;
@@ -12,12 +13,89 @@ use steal_deques::{Own, Thief, deque, gather};
 
 const THIEVES: u16 = 7;
 
+const ROUNDS: u64 = 100_000;
+
+// How often each of the paths 0 and 1 went somewhere, and any other path.
+#[derive(Clone, Copy, Debug, Drop, PartialEq, Eq)]
+struct Tally {
+    zero: u64,
+    one: u64,
+    other: u64,
+}
+
+impl Tally {
+    fn new() -> Tally {
+        Tally {
+            zero: 0,
+            one: 0,
+            other: 0,
+        }
+    }
+
+    fn note(&mut self, path: &Path) {
+        let count = if path.numbers() == [0, 0].as_slice() {
+            &mut self.zero
+        } else if path.numbers() == [0, 1].as_slice() {
+            &mut self.one
+        } else {
+            &mut self.other
+        };
+        *count = count.saturating_add(1);
+    }
+
+    fn add(&mut self, more: Tally) {
+        self.zero = self.zero.saturating_add(more.zero);
+        self.one = self.one.saturating_add(more.one);
+        self.other = self.other.saturating_add(more.other);
+    }
+}
+
 // What the owner did.
 #[derive(Drop)]
 struct Owned {
     own: Own,
     pushed: Tally,
     popped: Tally,
+}
+
+// Orders (2, 3), (1, 1) and (1, 2) in rank, sizes up to 4, and two colours for a slab.
+fn three_orders(alloc: Global) -> Result<Ranked, OutOfMemory> {
+    let orders = vec![in alloc;
+        Order {
+            weight: 1,
+            colour: 1
+        },
+        Order {
+            weight: 1,
+            colour: 2
+        },
+        Order {
+            weight: 2,
+            colour: 3
+        },
+    ]?;
+    Ranked::new(alloc, &Instance::new(vec![in alloc; 4]?, 3, orders, 2))
+}
+
+// The children of the first child of the empty path. They are the paths 0 0 and 0 1, where there
+// are orders.
+fn two_paths(alloc: Global, ranked: &Ranked) -> Result<Vec<Path>, OutOfMemory>
+    ensures { IfOk result (λ paths. All (λ path. in_tree ranked.now.mill (orders_of ranked.now) path
+        ≡ true) paths.items) }
+{
+    let root = NodeState::of(alloc, ranked, &Path::root(alloc))?;
+    if root.depth() >= ranked.len() {
+        return Ok(Vec::new(alloc));
+    }
+    let children = root.children(alloc)?;
+    let Some(child) = children.first() else {
+        return Ok(Vec::new(alloc));
+    };
+    let node = NodeState::of(alloc, ranked, child)?;
+    if node.depth() >= ranked.len() {
+        return Ok(Vec::new(alloc));
+    }
+    node.children(alloc)
 }
 
 // Pushes each path in turn, and pops after every second push.
@@ -67,6 +145,16 @@ fn lend_all(alloc: Global, own: &mut Own) -> Result<Vec<Thief>, OutOfMemory>
         thieves.push(own.lend()?)?;
     }
     Ok(thieves)
+}
+
+// Pops what is left, of no more paths than were pushed.
+fn pop_all(mut own: Own, gone: &mut Tally) {
+    for _path in 0..2 * ROUNDS {
+        let Some(path) = own.pop() else {
+            return;
+        };
+        gone.note(&path);
+    }
 }
 
 #[test]

@@ -5,8 +5,4 @@
 #[cfg(test)]
 mod deques;
 #[cfg(test)]
-mod paths;
-#[cfg(test)]
-mod together;
-#[cfg(test)]
 mod words;

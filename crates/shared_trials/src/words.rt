@@ -1,69 +1,42 @@
 //! Eight threads publish losses, look for the least one and draw tickets.
-ghost use Rattle.std.specs.Prelude.{◌≡◌, ◌≤◌, ◌+◌, All, IfOk, IsNone, vec_len};
+ghost use Rattle.std.specs.Prelude.{◌≡◌, ◌≤◌, ◌+◌, All, IfOk, vec_len};
 ghost use Rattle.shared_words.specs.Best.{IsLossSeatOf};
 ghost use Rattle.shared_words.specs.Meter.{IsTicketSeatOf};
 ghost use Rattle.shared_trials.specs.Trials.{AreSeatsOf};
 
-use crate::paths::ROUNDS;
 use mill_model::{Draw, OutOfMemory};
 use shared_words::{Best, BestSeat, Meter, MeterSeat};
 use std::alloc::Global;
-use std::process::Abort;
 use std::test::Fail;
 use std::thread;
 
-/// How many threads there are.
-pub const WORKERS: u16 = 8;
+const WORKERS: u16 = 8;
 
-/// The loss to begin with.
-pub const START: u64 = 9_000_000;
+const ROUNDS: u64 = 100_000;
 
-/// The number of tickets: five below the number of draws, so that at least one and at most five
-/// workers find it spent.
-pub const BUDGET: u64 = 799_995;
+const START: u64 = 9_000_000;
 
-/// A worker's seats, and what it did: the least loss that it published, the tickets that it drew,
-/// and the number past the budget, where it drew one.
+// Five below the number of draws, so that at least one and at most five workers find it spent.
+const BUDGET: u64 = 799_995;
+
+// A worker's seats, and what it did: the least loss that it published, the tickets that it drew,
+// and the number past the budget, where it drew one.
 #[derive(Drop)]
-pub struct Worker {
-    pub loss: BestSeat,
-    pub ticket: MeterSeat,
+struct Worker {
+    loss: BestSeat,
+    ticket: MeterSeat,
     number: u64,
     least: u64,
     tickets: Vec<u64>,
     past: Option<u64>,
 }
 
-/// What all workers did.
+// What all workers did.
 #[derive(Drop)]
-pub struct Joined {
+struct Joined {
     least: u64,
     tickets: Vec<u64>,
     past: Vec<u64>,
-}
-
-impl Joined {
-    /// Whether the least loss is the least published, and the numbers drawn are those below their
-    /// count.
-    pub fn agree_with(self, rt: &impl Abort, least: u64, drawn: u64) -> Result<(), Fail> {
-        let Joined {
-            least: published,
-            mut tickets,
-            mut past,
-        } = self;
-        assert_eq!(rt; published, START - 799_999);
-        assert_eq!(rt; least, published);
-        assert!(rt; drawn > BUDGET);
-        assert_eq!(rt; tickets.len() as u64, BUDGET);
-        tickets.sort_unstable();
-        past.sort_unstable();
-        tickets.append(&mut past)?;
-        assert_eq!(rt; tickets.len() as u64, drawn);
-        for (place, &number) in tickets.iter().enumerate() {
-            assert_eq!(rt; number, place as u64);
-        }
-        Ok(())
-    }
 }
 
 // One publishing and one look. The answer is at most all that was published here.
@@ -76,46 +49,52 @@ fn publish(best: &Best, seat: &mut BestSeat, loss: u64) -> u64
     best.look(seat)
 }
 
-impl Worker {
-    /// One round: publishes a loss that no other worker does, looks, and draws until the budget is
-    /// spent.
-    pub fn count(&mut self, best: &Best, meter: &Meter, round: u64)
-        requires seats { AreSeatsOf best.now meter.now self.old.loss self.old.ticket }
-        requires spend { IsNone self.old.past → 1 ≤ self.old.ticket.spends }
-        ensures seats { AreSeatsOf best.now meter.now self.new.loss self.new.ticket }
-        ensures spend { IsNone self.new.past → 1 ≤ self.new.ticket.spends }
-    {
-        let mine = START.wrapping_sub(round.wrapping_mul(8).wrapping_add(self.number));
-        self.least = self.least.min(mine);
-        if publish(best, &mut self.loss, mine) > self.least {
-            self.least = 0;
-        }
-        if self.past.is_some() {
-            return;
-        }
-        match meter.draw(&mut self.ticket) {
-            Draw::Ticket(drawn) => {
-                let _ = self.tickets.push(drawn);
-            }
-            Draw::Spent(drawn) => self.past = Some(drawn),
-        }
-    }
-}
-
-// Goes through all rounds.
-fn work(best: &Best, meter: &Meter, mut worker: Worker) -> Worker
+// Publishes and looks in each round, and draws until the budget is spent.
+fn work(best: &Best, meter: &Meter, worker: Worker) -> Worker
     requires seats { AreSeatsOf best.now meter.now worker.loss worker.ticket }
-    requires spend { IsNone worker.past → 1 ≤ worker.ticket.spends }
+    requires spend { 1 ≤ worker.ticket.spends }
     ensures { AreSeatsOf best.now meter.now result.loss result.ticket }
 {
+    let Worker {
+        mut loss,
+        mut ticket,
+        number,
+        mut least,
+        mut tickets,
+        mut past,
+    } = worker;
+    let mut is_spent = false;
     for round in 0..ROUNDS {
-        worker.count(best, meter, round);
+        let mine = START.wrapping_sub(round.wrapping_mul(8).wrapping_add(number));
+        least = least.min(mine);
+        if publish(best, &mut loss, mine) > least {
+            least = 0;
+        }
+        if is_spent {
+            continue;
+        }
+        match meter.draw(&mut ticket) {
+            Draw::Ticket(drawn) => {
+                let _ = tickets.push(drawn);
+            }
+            Draw::Spent(drawn) => {
+                is_spent = true;
+                past = Some(drawn);
+            }
+        }
     }
-    worker
+    Worker {
+        loss,
+        ticket,
+        number,
+        least,
+        tickets,
+        past,
+    }
 }
 
-/// A worker for each share but one.
-pub fn workers_of(
+// A worker for each share but one.
+fn workers_of(
     alloc: Global,
     best: &Best,
     meter: &Meter,
@@ -130,7 +109,7 @@ pub fn workers_of(
         × (ticket.new.shares ≡ 1)) }
     ensures len { IfOk result (λ workers. vec_len workers ≡ 8) }
     ensures each { IfOk result (λ workers. All (λ worker. AreSeatsOf best.now meter.now worker.loss
-        worker.ticket × (IsNone worker.past → 1 ≤ worker.ticket.spends)) workers.items) }
+        worker.ticket × (1 ≤ worker.ticket.spends)) workers.items) }
 {
     let mut workers = Vec::new(alloc);
     for number in 0..WORKERS {
@@ -147,8 +126,8 @@ pub fn workers_of(
     Ok(workers)
 }
 
-/// Joins what the workers know, and puts together what they did.
-pub fn join_all(
+// Joins what the workers know, and puts together what they did.
+fn join_all(
     alloc: Global,
     best: &Best,
     meter: &Meter,
@@ -202,11 +181,26 @@ fn eight_threads_publish_look_and_draw(rt: HostRuntime) -> Result<(), Fail> {
         workers,
         &|worker: Worker| -> Worker
             requires { AreSeatsOf shared.now counted.now worker.loss worker.ticket
-                × (IsNone worker.past → 1 ≤ worker.ticket.spends) }
+                × (1 ≤ worker.ticket.spends) }
             ensures { AreSeatsOf shared.entry.now counted.entry.now result.loss result.ticket }
         { work(shared, counted, worker) },
     )?;
-    let joined = join_all(alloc, &best, &meter, &mut loss, &mut ticket, done)?;
-    let (least, drawn) = (best.close(loss), meter.close(ticket));
-    joined.agree_with(&rt, least, drawn)
+    let Joined {
+        least,
+        mut tickets,
+        mut past,
+    } = join_all(alloc, &best, &meter, &mut loss, &mut ticket, done)?;
+    assert_eq!(rt; least, START - 799_999);
+    assert_eq!(rt; best.close(loss), least);
+    let drawn = meter.close(ticket);
+    assert!(rt; drawn > BUDGET);
+    assert_eq!(rt; tickets.len() as u64, BUDGET);
+    tickets.sort_unstable();
+    past.sort_unstable();
+    tickets.append(&mut past)?;
+    assert_eq!(rt; tickets.len() as u64, drawn);
+    for (place, &number) in tickets.iter().enumerate() {
+        assert_eq!(rt; number, place as u64);
+    }
+    Ok(())
 }

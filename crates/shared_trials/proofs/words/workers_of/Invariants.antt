@@ -1,4 +1,4 @@
-use Rattle.std.proofs.Common.{◌≡◌, ◌≤◌, ◌+◌, All, IsNone, vec_len}
+use Rattle.std.proofs.Common.{◌≡◌, ◌≤◌, ◌+◌, All, vec_len}
 use Rattle.shared_words.specs.Best.{IsLossSeatOf}
 use Rattle.shared_words.specs.Meter.{IsTicketSeatOf}
 use Rattle.shared_trials.specs.Trials.{AreSeatsOf}
@@ -13,5 +13,5 @@ invariant-loop-number l = record {
   spends : l.ticket.spends + l.number ≡ 9;
   count : vec_len l.workers ≡ l.number;
   each : All (λ worker. AreSeatsOf l.best l.meter worker.loss worker.ticket
-      × (IsNone worker.past → 1 ≤ worker.ticket.spends)) l.workers.items;
+      × (1 ≤ worker.ticket.spends)) l.workers.items;
 }

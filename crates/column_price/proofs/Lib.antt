@@ -1,4 +1,0 @@
-pub mod LeastOfParts
-pub mod ValidByLeast
-pub mod ZeroEnds
-pub mod AtNode

@@ -13,8 +13,14 @@ fn new_slabs(rt: HostRuntime) -> Result<(), Fail> {
     assert_eq!(rt; ranked.largest(), 4);
     let charges = charges_to_four(alloc)?;
     let zero = Prices::from_list(vec![in alloc; 0, 0, 0]?);
-    assert_eq!(rt; least_new(alloc, &ranked, &charges, 0, &zero, None)?, Some(60));
+    assert_eq!(rt;
+        least_new(alloc, &ranked, &charges, 0, &zero, None)?,
+        Some(60)
+    );
     let raised = Prices::from_list(vec![in alloc; 60, 0, 0]?);
-    assert_eq!(rt; least_new(alloc, &ranked, &charges, 0, &raised, Some(2))?, Some(0));
+    assert_eq!(rt;
+        least_new(alloc, &ranked, &charges, 0, &raised, Some(2))?,
+        Some(0)
+    );
     Ok(())
 }

@@ -9,6 +9,8 @@ mod draft;
 mod hand;
 mod relay;
 mod splits;
+#[cfg(test)]
+mod tests;
 mod walk;
 
 pub use walk::better_plan;

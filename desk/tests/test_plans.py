@@ -184,12 +184,18 @@ class Inputs(InFolder):
         'compare': ('compare', 'other/orders.csv', 'plan.csv', 'other/two.csv'),
         'what-if': ('what-if', 'what-if.csv'),
         'show': ('show', 'instance.txt', 'answer.txt'),
-        'tree': ('tree', 'instance.txt', 'answer.txt'),
         'show, the answer alone': ('show', 'other/instance.txt', 'answer.txt'),
         'a link': ('plan', 'other/link.csv'),
     })
     def test_a_target_that_holds_an_input_is_refused(self, words: tuple[str, ...]) -> None:
-        command, *inputs = words
+        self.assert_target_is_refused(*words)
+
+    @needs('jinja2')
+    def test_so_is_that_of_a_tree(self) -> None:
+        self.assert_target_is_refused('tree', 'instance.txt', 'answer.txt')
+
+    def assert_target_is_refused(self, command: str, *inputs: str) -> None:
+        """Runs a command whose target is the folder that holds an input."""
         texts = {'instance.txt': '1 4\n3\n3\n1 1\n1 2\n2 3\n',
                  'answer.txt': 'optimal\nloss 4\nplan 3 1 3\nlog 1 1\nS 0\nend\n',
                  'two.csv': CHECKED.format(1, 2, 1)}

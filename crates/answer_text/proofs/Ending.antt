@@ -13,6 +13,7 @@ use Rattle.answer_text.specs.declared.answer.Answer.TheVariants.{Optimal, Feasib
 use Rattle.answer_text.specs.Line.{Line, loss, plan, spent, order, spell, AreWithin}
 use Rattle.answer_text.specs.Text.{lines_of, IsEnding, Ends, Spells}
 use Rattle.answer_text.specs.Reading.{LacksEnd}
+use Rattle.mill_model.specs.declared.limits.TheConstants.{MAX_NODES}
 
 not-some : (place : Option ℕ) (n : ℕ) → place ≡ None → place ≡ Some n → ⊥
 not-some place n h k = absurd (cc)
@@ -167,7 +168,7 @@ never-ends (next ∷ rest) lacks = λ more (e : IsEnding (next ∷ more)).
 
 -- no first line of a log comes next
 abbrev pub LacksLog : List (List ℕ) → Type 0
-LacksLog rest = (stated : ℕ) → stated ≤ 1000000000 → ¬ (BeginsWith rest (first_line stated ∷ []))
+LacksLog rest = (stated : ℕ) → stated ≤ MAX_NODES → ¬ (BeginsWith rest (first_line stated ∷ []))
 
 never-log : (log : Logged) (rest : List (List ℕ)) → LacksLog rest → Never (IsLogText log) rest
 never-log log [] lacks = λ (t : IsLogText log []).

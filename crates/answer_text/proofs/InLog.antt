@@ -3,6 +3,7 @@ use Rattle.std.proofs.Common.{ℕ, ◌≡◌, ◌≤◌, inl, inr, List, ◌∷�
 use Rattle.std.proofs.Common.{refl, ap}
 use Rattle.line_text.specs.Words.{BeginsWith}
 use Rattle.mill_model.specs.declared.closing.Entry.{Entry}
+use Rattle.mill_model.specs.declared.limits.TheConstants.{MAX_NODES}
 use Rattle.refute_log.specs.Logged.{Logged}
 use Rattle.refute_log.specs.Text.{record_line, first_line, BeginsLog}
 use Rattle.refute_log.specs.Judged as in_log
@@ -18,7 +19,7 @@ use Rattle.answer_text.proofs.Fronts.{head_of}
 -- lines begin with the first line of a log
 pub record BeginsFirst (lines : List (List ℕ)) : Type 0 where
   pub stated : ℕ
-  pub few : stated ≤ 1000000000
+  pub few : stated ≤ MAX_NODES
   pub begins : BeginsWith lines (first_line stated ∷ [])
 
 pub first-of : (orders stated : ℕ) (entries : List Entry) (lines rest : List (List ℕ))

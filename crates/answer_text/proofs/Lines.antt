@@ -9,6 +9,7 @@ use Rattle.line_text.proofs.Cuts.{lacks}
 use Rattle.line_text.proofs.Plain.{is_plain, are_plain, plain-decimal, plain-ordinals, words-line}
 use Rattle.line_text.proofs.Plain.{line-words, lacks-line, ordinals-injective}
 use Rattle.answer_text.specs.Line.{Line, kind, loss, plan, spent, order, words_of, spell, IsWithin}
+use Rattle.mill_model.specs.declared.limits.TheConstants.{MAX_NODES}
 
 -- whether the name of a kind is plain
 abbrev pub plain_name : Line → Bool
@@ -66,7 +67,7 @@ same-loss m n l k e =
     let d : decimal m ≡ decimal n = cc in
     decimal_injective m n (omega arith) (omega arith) d
 
-pub same-spent : (m n : ℕ) → m ≤ 1000000000 → n ≤ 1000000000
+pub same-spent : (m n : ℕ) → m ≤ MAX_NODES → n ≤ MAX_NODES
     → spell (spent m) ≡ spell (spent n) → m ≡ n
 same-spent m n l k e =
     let w : codes "spent" ∷ decimal m ∷ [] ≡ codes "spent" ∷ decimal n ∷ [] =

@@ -2,6 +2,7 @@
 use Rattle.std.specs.Prelude.{ℕ, ◌+◌, ◌≡◌, ◌≤◌, ◌⊎◌, List, [], ◌∷◌, ◌++◌, map, length, take, None}
 use Rattle.std.specs.Prelude.{Result}
 use Rattle.mill_model.specs.Exactly.{ComesExactly}
+use Rattle.mill_model.specs.declared.limits.TheConstants.{MAX_NODES}
 use Rattle.line_text.specs.Words.{BeginsWith}
 use Rattle.refute_log.specs.Text.{first_line}
 use Rattle.refute_log.specs.Judged as in_log
@@ -38,7 +39,7 @@ pub record HasLog (orders : ℕ) (lines : List (List ℕ)) : Type 0 where
   pub log : List (List ℕ)
   pub parts : lines ≡ map spell (lines_of (Optimal lost slabs None)) ++ log
   pub stated : ℕ
-  pub few : stated ≤ 1000000000
+  pub few : stated ≤ MAX_NODES
   pub begins : BeginsWith log (first_line stated ∷ [])
 
 -- there is no log, and the first line that is wrong has this number
@@ -88,5 +89,6 @@ IsRefused orders lines (CountDiffers stated found) = CountIsOther orders lines s
 IsRefused orders lines OutOfMemory = Unit {0}
 
 -- an answer comes exactly where a fact holds, but for want of memory
-abbrev pub ComesWhere : Result Answer AnswerTextError → Result Answer AnswerTextError → Type 0 → Type 0
+abbrev pub ComesWhere : Result Answer AnswerTextError → Result Answer AnswerTextError → Type 0 →
+    Type 0
 ComesWhere result answer fact = ComesExactly OutOfMemory result answer fact

@@ -4,6 +4,7 @@ use Rattle.std.specs.List.{AllByRecursion}
 use Rattle.std.specs.Fmt.{decimal}
 use Rattle.line_text.specs.Words.{line_of}
 use Rattle.line_text.specs.Numbers.{ordinal, ordinals}
+use Rattle.mill_model.specs.declared.limits.TheConstants.{MAX_NODES}
 
 -- what a line says: which kind of answer this is, a loss, the slab of each order, how many paths
 -- were closed, or an order; slabs and orders are counted from 0
@@ -30,7 +31,7 @@ abbrev pub IsWithin : ℕ → Line → Type 0
 IsWithin orders (kind name) = Unit {0}
 IsWithin orders (loss number) = number ≤ 1000000000000
 IsWithin orders (plan slabs) = (length slabs ≡ orders) × All (λ slab. slab < orders) slabs
-IsWithin orders (spent number) = number ≤ 1000000000
+IsWithin orders (spent number) = number ≤ MAX_NODES
 IsWithin orders (order place) = place < orders
 
 abbrev pub AreWithin : ℕ → List Line → Type 0

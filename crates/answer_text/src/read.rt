@@ -15,16 +15,13 @@ use crate::answer::Answer;
 use crate::error::AnswerTextError;
 use crate::line::{number_on, order_on, plan_on};
 use line_text::{Lines, is_end};
-use mill_model::{Instance, Plan};
+use mill_model::{Instance, MAX_NODES, Plan};
 use refute_log::{Log, read_log};
 use std::alloc::Global;
 use std::marker::Model;
 
 /// The greatest loss that a text states.
 const MAX_LOSS: u64 = 1_000_000_000_000;
-
-/// The greatest number of closed paths that a text states.
-const MAX_SPENT: u64 = 1_000_000_000;
 
 /// The answer to an instance that a text stands for.
 ///
@@ -187,7 +184,7 @@ impl<'a> Reader<'a> {
         ensures err { IfErr result (Refuses spent self.old) }
     {
         let line = self.next_line()?;
-        number_on(line, b"spent", MAX_SPENT).ok_or(self.bad_line())
+        number_on(line, b"spent", MAX_NODES).ok_or(self.bad_line())
     }
 
     fn order(&mut self) -> Result<u16, AnswerTextError>

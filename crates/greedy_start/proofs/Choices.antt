@@ -12,7 +12,7 @@ use Rattle.mill_model.specs.Starts.{stays_legal, first_group, added_charge, cand
 use Rattle.mill_model.specs.Starts.{best_group, best_fit}
 use Rattle.mill_model.specs.Tree.{next_new}
 use Rattle.mill_model.specs.declared.order.Order.{Order}
-use Rattle.list_laws.proofs.Tests.{either, last-or-below}
+use Rattle.list_laws.proofs.Tests.{clash, either, last-or-below, same-answer}
 use Rattle.mill_model.proofs.Slabs.{load-append}
 use Rattle.mill_laws.proofs.Groups.{slab-new}
 use Rattle.list_laws.proofs.Among.{Among, Among-unappend, Among-unfilter, below-lt, all-among}
@@ -25,17 +25,6 @@ use Rattle.split_tree.proofs.Pushes.{slab-same}
 use Rattle.greedy_start.specs.Choice.{IsBestFrom}
 use Rattle.greedy_start.specs.declared.open_path.Choice.{Choice}
 use Rattle.greedy_start.proofs.Finds.{find-none, find-first, find-filter}
-
--- a test doesn't come out both ways
-pub clash : (a : Bool) → a ≡ true → a ≡ false → ⊥
-clash a t f = cc
-
--- two tests that pass together
-same-answer : (a b : Bool) → IsTrue a ↔ (b ≡ true) → a ≡ b
-same-answer a b same = elim (either a) [
-  | inl t ↦ t ∙ sym (same.0 t)
-  | inr f ↦ elim (either b) [ inl t ↦ absurd (clash a (same.1 t) f) | inr g ↦ f ∙ sym g ]
-]
 
 module _ (node : Node) (order : Order)
     (next : slice_get (orders_of node.ranked) (length node.path) ≡ Some order) where
@@ -106,14 +95,8 @@ less-not a b l = grind (arith, ints)
 less-le : (a b : ℤ) → a <ℤ b → int_le a b ≡ true
 less-le a b l = grind (arith, ints)
 
-le-yes : (a b : ℤ) → a ≤ℤ b → int_le a b ≡ true
-le-yes a b l = grind (arith, ints)
-
 le-chain : (a b c : ℤ) → a ≤ℤ b → int_le b c ≡ true → int_le a c ≡ true
 le-chain a b c l h = grind (arith, ints)
-
-not-chain : (a b c : ℤ) → a ≤ℤ b → int_le c b ≡ false → int_le c a ≡ false
-not-chain a b c l h = grind (arith, ints)
 
 le-self : (a : ℤ) → int_le a a ≡ true
 le-self a = grind (arith, ints)

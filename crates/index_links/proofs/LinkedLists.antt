@@ -6,13 +6,11 @@ use Rattle.std.proofs.Common.{◌++◌, length, eqb, Option, Some, None, refl, s
 use Rattle.std.proofs.Common.{subst, inl, inr, eq-eqb, eqb-true}
 use Rattle.std.specs.List.{slice_get}
 use Rattle.list_laws.specs.Sets.{holds}
-use Rattle.list_laws.proofs.Tests.{either, or-cases, or-left, or-right}
-use Rattle.list_laws.proofs.Different.{holds-append}
-use Rattle.index_links.specs.Lists.{Apart, after, without}
+use Rattle.list_laws.proofs.Tests.{clash, either, or-cases, or-left, or-right}
+use Rattle.list_laws.proofs.Different.{holds-append, without-none}
+use Rattle.list_laws.specs.Without.{without}
+use Rattle.index_links.specs.Lists.{Apart, after}
 use Rattle.index_links.specs.Links.{look, Chain, walk}
-
-pub clash : (a : Bool) → a ≡ true → a ≡ false → ⊥
-clash a t f = cc
 
 -- Lists without repeats.
 
@@ -55,13 +53,6 @@ around o (x ∷ xs) h = elim (or-cases (eqb o x) (holds o xs) h) [
   | inl e ↦ record { front = []; back = xs; is = ap (λ y. y ∷ xs) (sym (eqb-true o x e)) }
   | inr i ↦ (let r = around o xs i in
       record { front = x ∷ r.front; back = r.back; is = ap (λ ys. x ∷ ys) r.is })
-]
-
-pub without-none : (o : ℕ) (xs : List ℕ) → holds o xs ≡ false → without o xs ≡ xs
-without-none o [] h = refl
-without-none o (x ∷ xs) h = elim (either (eqb o x)) [
-  | inl e ↦ absurd (clash (holds o (x ∷ xs)) (or-left (eqb o x) (holds o xs) e) h)
-  | inr f ↦ rw f (ap (λ ys. x ∷ ys) (without-none o xs (rw f at h)))
 ]
 
 pub without-around : (o : ℕ) (xs ys : List ℕ) → Apart (xs ++ o ∷ ys) →

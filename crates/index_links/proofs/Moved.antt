@@ -8,10 +8,12 @@ use Rattle.std.proofs.lemmas.List.{get_or-map, get_or-set_same, get_or-set_other
 use Rattle.std.proofs.lemmas.List.{length-map}
 use Rattle.std.proofs.lemmas.List.Elements.{All-get_or, All-set}
 use Rattle.list_laws.specs.Sets.{holds}
-use Rattle.list_laws.proofs.Tests.{either, or-cases}
-use Rattle.index_links.specs.Lists.{list_at, Apart, without, moved}
+use Rattle.list_laws.proofs.Tests.{clash, either, or-cases}
+use Rattle.list_laws.specs.Without.{without}
+use Rattle.list_laws.proofs.Different.{without-other}
+use Rattle.index_links.specs.Lists.{list_at, Apart, moved}
 use Rattle.index_links.specs.Links.{look, is_none, is_some, set_at, Chain, IsLinked}
-use Rattle.index_links.proofs.LinkedLists.{clash, holds-first, chain-first, first-holds}
+use Rattle.index_links.proofs.LinkedLists.{holds-first, chain-first, first-holds}
 use Rattle.index_links.proofs.Relinked.{before-there, next-there, chains-without, chains-with}
 
 -- A list without a number.
@@ -23,18 +25,11 @@ without-lacks o (x ∷ xs) = elim (either (eqb o x)) [
   | inr f ↦ rw (f, f) (without-lacks o xs)
 ]
 
-pub holds-without : (z o : ℕ) (xs : List ℕ) → z ≢ o → holds z (without o xs) ≡ holds z xs
-holds-without z o [] k = refl
-holds-without z o (x ∷ xs) k = elim (either (eqb o x)) [
-  | inl e ↦ rw (e, ne_eqb z x (λ q. k (q ∙ sym (eqb-true o x e)))) (holds-without z o xs k)
-  | inr f ↦ rw f (ap (λ b. eqb z x || b) (holds-without z o xs k))
-]
-
 pub unwithout : (z o : ℕ) (xs : List ℕ) → holds z (without o xs) ≡ true → holds z xs ≡ true
 unwithout z o xs h = elim (either (eqb z o)) [
   | inl e ↦ absurd (clash (holds z (without o xs)) h
       (subst (λ w. holds w (without o xs) ≡ false) (sym (eqb-true z o e)) (without-lacks o xs)))
-  | inr f ↦ sym (holds-without z o xs (false-eqb z o (sym f))) ∙ h
+  | inr f ↦ sym (without-other z o xs (false-eqb z o (sym f))) ∙ h
 ]
 
 pub apart-without : (o : ℕ) (xs : List ℕ) → Apart xs → Apart (without o xs)
@@ -245,9 +240,9 @@ module _ (firsts nexts previous : List (Option ℕ)) (slabs : List ℕ) (lists :
       of-other : (r : ℕ) → z ≢ o → r < n →
           holds z (cond (eqb r s) (o ∷ lists1 s) (lists1 r)) ≡ eqb r (get_or slabs z 0)
       of-other r k low = elim (either (eqb r s)) [
-        | inl e ↦ rw (e, ne_eqb z o k) (holds-without z o (list_at lists s) k
+        | inl e ↦ rw (e, ne_eqb z o k) (without-other z o (list_at lists s) k
             ∙ is.slab_is s z slab here ∙ ap (λ q. eqb q (get_or slabs z 0)) (sym (eqb-true r s e)))
-        | inr f ↦ rw f (holds-without z o (list_at lists r) k ∙ is.slab_is r z low here)
+        | inr f ↦ rw f (without-other z o (list_at lists r) k ∙ is.slab_is r z low here)
       ]
 
   long : length nexts2 ≡ n

@@ -4,12 +4,14 @@ use Rattle.std.proofs.Common.{◌++◌, eqb, Option, Some, None, refl, sym, ap, 
 use Rattle.std.proofs.Common.{eq-eqb, eqb-true, ne_eqb, false-eqb}
 use Rattle.std.specs.List.{slice_get}
 use Rattle.list_laws.specs.Sets.{holds}
-use Rattle.list_laws.proofs.Tests.{either, or-right}
+use Rattle.list_laws.proofs.Tests.{clash, either, or-right}
 use Rattle.list_laws.proofs.Different.{holds-append}
-use Rattle.index_links.specs.Lists.{Apart, without}
+use Rattle.list_laws.specs.Without.{without}
+use Rattle.list_laws.proofs.Different.{without-none}
+use Rattle.index_links.specs.Lists.{Apart}
 use Rattle.index_links.specs.Links.{look, is_none, is_some, Chain}
-use Rattle.index_links.proofs.LinkedLists.{clash, holds-rest, Around, around, apart-parts}
-use Rattle.index_links.proofs.LinkedLists.{without-none, without-around, chain-before, chain-next}
+use Rattle.index_links.proofs.LinkedLists.{holds-rest, Around, around, apart-parts}
+use Rattle.index_links.proofs.LinkedLists.{without-around, chain-before, chain-next}
 use Rattle.index_links.proofs.LinkedLists.{first-holds, last-holds, last_or, begin, chain-first}
 use Rattle.index_links.proofs.LinkedLists.{chain-stays, chain-without, chain-with}
 

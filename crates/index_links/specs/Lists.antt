@@ -2,6 +2,7 @@
 use Rattle.std.specs.Prelude.{ℕ, suc, ◌<◌, ◌≤◌, ◌≡◌, true, false, cond, List, [], ◌∷◌, map, length}
 use Rattle.std.specs.Prelude.{eqb, slice_index_or, slice_set, slice_get, Option, None}
 use Rattle.list_laws.specs.Sets.{holds, below}
+use Rattle.list_laws.specs.Without.{without}
 use Rattle.mill_model.specs.declared.order.TheConstants.{MAX_ORDERS}
 
 -- the list of a slab
@@ -44,11 +45,6 @@ lists_of_plan plan = map (λ s. places_from s 0 plan) (below (length plan))
 abbrev pub after : ℕ → List ℕ → Option ℕ
 after o [] = None
 after o (x ∷ xs) = cond (eqb o x) (slice_get xs 0) (after o xs)
-
--- a list without a number
-abbrev pub without : ℕ → List ℕ → List ℕ
-without o [] = []
-without o (x ∷ xs) = cond (eqb o x) (without o xs) (x ∷ without o xs)
 
 -- lists once an order went from its own to the front of another, or of its own
 abbrev pub moved : ℕ → ℕ → List (List ℕ) → List (List ℕ)

@@ -20,7 +20,7 @@ use Rattle.instance_text.specs.Fields.{number_at, order_fields}
 use Rattle.instance_text.specs.Text.{AreInstance, Begins, IsRefused, numbers_of, numbers_of_orders}
 use Rattle.instance_text.specs.Answer.{Answers, HasCause}
 use Rattle.instance_text.specs.Reading.{Spells, values}
-use Rattle.instance_text.proofs.Rising.{same_sizes}
+use Rattle.mill_model.proofs.RisingLists.{same_sizes}
 use Rattle.instance_text.proofs.Stages.{counted, counted-orders, counted-last, length-counted}
 use Rattle.instance_text.proofs.Ranges.{InRanges, ranges_append, range_from, within_sizes}
 use Rattle.instance_text.proofs.Ranges.{within_orders, right_from}

@@ -1,9 +1,8 @@
 pub mod Runs
 pub mod Ranges
 pub mod Judging
-pub mod Parts
+pub mod FieldsInTurn
 pub mod Repeats
 pub mod Stages
-pub mod Rising
 pub mod Exact
 pub mod Printed

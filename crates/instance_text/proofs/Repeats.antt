@@ -10,7 +10,7 @@ use Rattle.instance_text.specs.declared.reader.Reader.{Reader}
 use Rattle.instance_text.specs.Fields.{order_fields}
 use Rattle.instance_text.specs.Text.{numbers_of_orders}
 use Rattle.instance_text.specs.Reading.{Took}
-use Rattle.instance_text.proofs.Parts.{right_count}
+use Rattle.instance_text.proofs.FieldsInTurn.{right_count}
 
 -- nothing was read yet
 pub took_none : (a : Reader) → Took [] [] a a

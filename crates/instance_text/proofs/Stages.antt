@@ -20,7 +20,7 @@ use Rattle.instance_text.specs.Fields.{fields, fields_of, judged, number_at, ord
 use Rattle.instance_text.specs.Text.{numbers_of, numbers_of_orders, IsRefused}
 use Rattle.instance_text.specs.Answer.{HasCause}
 use Rattle.instance_text.specs.Reading.{Starts, Took, Stops, Fails, Spells, ahead, values}
-use Rattle.instance_text.proofs.Parts.{took_on, fails_on, fails_front, fails_next}
+use Rattle.instance_text.proofs.FieldsInTurn.{took_on, fails_on, fails_front, fails_next}
 use Rattle.instance_text.proofs.Ranges.{InRanges, right_digits, right_ranges, sizes_within}
 use Rattle.instance_text.proofs.Ranges.{orders_within}
 

@@ -8,7 +8,7 @@ use Rattle.std.specs.Str.{bytes_eq}
 use Rattle.std.specs.declared.alloc.Global.{Global}
 use Rattle.std.specs.List.{AllByRecursion}
 use Rattle.std.proofs.Math.Seq.{take-suc}
-use Rattle.std.proofs.lemmas.Bool.{cases_order}
+use Rattle.std.proofs.lemmas.Bool.{cases_Bool, cases_order}
 use Rattle.std.proofs.lemmas.List.{take-append-drop, take_all, take-take, get_or-map, length-map}
 use Rattle.std.specs.Str.Parse.{digits_value}
 use Rattle.std.proofs.lemmas.Slice.Eq.{bytes_eq-Decides}
@@ -24,10 +24,6 @@ use Rattle.job_words.specs.Reading.{HasRead, held_for}
 use Rattle.job_words.specs.Words.{texts, Given, words_of, spelling, number_for}
 use Rattle.job_words.specs.Words.{number_by, number_in, AreOnce, IsNumberFor, IsRightFor, Spell}
 use Rattle.job_words.specs.Words.{AskFor, IsInRange, Begin, IsWrongAt}
-
-true-or-false : (b : Bool) → (b ≡ true) ⊎ (b ≡ false)
-true-or-false true = inl refl
-true-or-false false = inr refl
 
 -- the text of a word
 pub text-at : (words : List (String Global)) (place : ℕ) (word : String Global) →
@@ -87,9 +83,9 @@ same-setting-back s t e =
     (sym ((bytes_eq-Decides (name_of s) (name_of t)).0 e))
 
 same-setting-sym : (s t : Setting) → same_setting s t ≡ same_setting t s
-same-setting-sym s t = elim (true-or-false (same_setting s t)) [
+same-setting-sym s t = elim (cases_Bool (same_setting s t)) [
   | inl same ↦ same ∙ sym (same-setting-back s t same)
-  | inr other ↦ elim (true-or-false (same_setting t s)) [
+  | inr other ↦ elim (cases_Bool (same_setting t s)) [
     | inl back ↦ (let same = same-setting-back t s back in absurd (cc))
     | inr apart ↦ other ∙ sym apart
   ]
@@ -182,7 +178,7 @@ number-behind : (s : Setting) (front back : List Given) → number_for s front �
     number_for s (front ++ back) ≡ number_for s back
 number-behind s [] back none = refl
 number-behind s (option ∷ front) back none =
-    elim (true-or-false (same_setting s option.setting)) [
+    elim (cases_Bool (same_setting s option.setting)) [
       | inl same ↦ (let none' = rw same at none in absurd (cc))
       | inr other ↦ (let none' = rw other at none in rw other (number-behind s front back none'))
     ]
@@ -195,7 +191,7 @@ new-behind (first ∷ front) option back once =
     let s = first.setting in
     let t = option.setting in
     let later = new-behind front option back once.1 in
-    elim (true-or-false (same_setting t s)) [
+    elim (cases_Bool (same_setting t s)) [
       | inl same ↦
           (let here : same_setting s t ≡ true = same-setting-sym s t ∙ same in
           let alike : number_for s (option ∷ back) ≡ Some (digits_value 10 option.number) =
@@ -213,7 +209,7 @@ once-push : (front : List Given) (option : Given) → AreOnce front →
     number_for option.setting front ≡ None → AreOnce (front ++ option ∷ [])
 once-push [] option once new = (refl, tt)
 once-push (first ∷ front) option once new =
-    elim (true-or-false (same_setting option.setting first.setting)) [
+    elim (cases_Bool (same_setting option.setting first.setting)) [
       | inl same ↦ (let new' = rw same at new in absurd (cc))
       | inr other ↦
           (let here = same-setting-sym first.setting option.setting ∙ other in (
@@ -245,7 +241,7 @@ pub number-push : (s : Setting) (front : List Given) (option : Given) →
     number_for option.setting front ≡ None → number_for s (front ++ option ∷ [])
     ≡ cond (same_setting s option.setting) (Some (digits_value 10 option.number))
     (number_for s front)
-number-push s front option new = elim (true-or-false (same_setting s option.setting)) [
+number-push s front option new = elim (cases_Bool (same_setting s option.setting)) [
   | inl same ↦
       (let none = subst (λ t. number_for t front ≡ None)
       (sym (same-settings s option.setting same)) new in
@@ -540,7 +536,7 @@ pub in-range : (s : Setting) (c : Command) (options : List Given) →
     AllByRecursion (IsRightFor c) options →
     (least s ≤ number_by options s) × (number_by options s ≤ greatest s)
 in-range s c [] right = default-in-range s
-in-range s c (option ∷ options) right = elim (true-or-false (same_setting s option.setting)) [
+in-range s c (option ∷ options) right = elim (cases_Bool (same_setting s option.setting)) [
   | inl same ↦
       (let is = subst (λ t. IsNumberFor t option.number)
       (sym (same-settings s option.setting same)) right.0.1 in

@@ -33,7 +33,7 @@ pub fn rules_of_the_options()
       least = 0;
       greatest = 1000000;
       default = 1000;
-      scope = Planned;
+      scope = Searching;
     } }
     ensures seed { rule_of Seed ≡ record {
       setting = Seed;

@@ -3,6 +3,7 @@ ghost use Rattle.job_words.specs.Options.{allows, name_of, rule_of};
 
 use crate::command::Command;
 use crate::table::{Row, served};
+use mill_model::MAX_NODES;
 
 /// What an option sets.
 #[derive(Clone, Copy, Debug, PartialEq, Eq)]
@@ -56,7 +57,7 @@ pub const WORKERS: Rule = Rule {
 pub const NODES: Rule = Rule {
     setting: Setting::Nodes,
     least: 0,
-    greatest: 1_000_000_000,
+    greatest: MAX_NODES,
     default: 20_000,
     scope: Scope::Searching,
 };
@@ -76,7 +77,7 @@ pub const MOVES: Rule = Rule {
     least: 0,
     greatest: 1_000_000,
     default: 1000,
-    scope: Scope::Planned,
+    scope: Scope::Searching,
 };
 
 /// Where the numbers of a generated instance begin.

@@ -21,7 +21,7 @@ fn words_of(alloc: Global, row: &[&str]) -> Result<Vec<String>, OutOfMemory> {
 #[test]
 fn other_words_ask_for_nothing(rt: HostRuntime) -> Result<(), Fail> {
     let alloc = rt.alloc();
-    let rows: [(&[&str], usize); 20] = [
+    let rows: [(&[&str], usize); 22] = [
         (&[], 0),
         (&["SOLVE", "solve"], 0),
         (&["replay"], 0),
@@ -30,17 +30,19 @@ fn other_words_ask_for_nothing(rt: HostRuntime) -> Result<(), Fail> {
         (&["verify", "--nodes", "5"], 1),
         (&["solve", ""], 1),
         (&["solve", "--workers", "1"], 1),
-        (&["solve", "--moves", "1"], 1),
+        (&["check", "--moves", "1"], 1),
         (&["solve", "--colours=1"], 1),
         (&["solve", "--nodes"], 2),
         (&["solve", "--nodes", "-1"], 2),
         (&["solve", "--nodes", "1000000001"], 2),
+        (&["prove", "--moves", "1000001"], 2),
         (&["check", "--colours"], 2),
         (&["solve", "--colours", "0"], 2),
         (&["solve", "--colours", "9", "--bad"], 2),
         (&["solve", "--colours", "+1"], 2),
         (&["solve", "--colours", "18446744073709551617"], 2),
         (&["prove", "--nodes", "1", "--nodes", "1"], 3),
+        (&["solve", "--moves", "1", "--moves", "2"], 3),
         (&["check", "--colours", "1", "--nodes", "1"], 3),
     ];
     for (row, place) in rows {
@@ -50,39 +52,62 @@ fn other_words_ask_for_nothing(rt: HostRuntime) -> Result<(), Fail> {
     Ok(())
 }
 
-// Each row: words, and the command, nodes and colours that they ask for.
+// Each row: words, and the command, nodes, moves and colours that they ask for.
 #[test]
 fn right_words_ask_for_a_job(rt: HostRuntime) -> Result<(), Fail> {
-    let rows: [(&[&str], Command, u64, u8); 8] = [
-        (&["prove", "--nodes", "3"], Command::Prove, 3, 2),
-        (&["verify", "--colours", "1"], Command::Verify, 20_000, 1),
-        (&["solve"], Command::Solve, 20_000, 2),
-        (&["check", "--colours", "008"], Command::Check, 20_000, 8),
+    let rows: [(&[&str], Command, u64, u64, u8); 10] = [
+        (&["prove", "--nodes", "3"], Command::Prove, 3, 1000, 2),
+        (
+            &["verify", "--colours", "1"],
+            Command::Verify,
+            20_000,
+            1000,
+            1,
+        ),
+        (&["solve"], Command::Solve, 20_000, 1000, 2),
+        (
+            &["check", "--colours", "008"],
+            Command::Check,
+            20_000,
+            1000,
+            8,
+        ),
         (
             &["solve", "--colours", "00000000000000000000000000000000003"],
             Command::Solve,
             20_000,
+            1000,
             3,
         ),
-        (&["solve", "--nodes", "0"], Command::Solve, 0, 2),
+        (&["solve", "--nodes", "0"], Command::Solve, 0, 1000, 2),
         (
             &["solve", "--nodes", "1000000000"],
             Command::Solve,
             1_000_000_000,
+            1000,
             2,
         ),
         (
             &["solve", "--colours", "3", "--nodes", "008"],
             Command::Solve,
             8,
+            1000,
             3,
         ),
+        (&["prove", "--moves", "0"], Command::Prove, 20_000, 0, 2),
+        (
+            &["solve", "--moves", "1000000", "--nodes", "7"],
+            Command::Solve,
+            7,
+            1_000_000,
+            2,
+        ),
     ];
-    for (row, command, nodes, p) in rows {
+    for (row, command, nodes, moves, p) in rows {
         let words = words_of(rt.alloc(), row)?;
         let limits = Limits {
             nodes,
-            moves: 1000,
+            moves,
             workers: 1,
         };
         let job = Job {

@@ -1,6 +1,6 @@
 ghost use Rattle.std.specs.Prelude.{ℕ, ◌++◌, flat_map, OnOk, OnErr};
 ghost use Rattle.std.specs.Io.KnownBytes.{Appends};
-ghost use Rattle.mill_io.specs.Bytes.{AppendsFront};
+ghost use Rattle.mill_io.specs.Bytes.{AppendsFront, AppendsToBoth};
 ghost use Rattle.mill_io.specs.Causes.{HasCause};
 ghost use Rattle.job_words.specs.Usage.{between, usage_line};
 
@@ -14,6 +14,8 @@ pub fn write_usage<K: Sink>(sink: &mut K) -> Result<(), Failed>
     ensures ok { OnOk result (Appends (K.written sink.old) (K.written sink.new) usage_line) }
     ensures err { OnErr result
         (AppendsFront (K.written sink.old) (K.written sink.new) usage_line) }
+    ensures held { AppendsToBoth (K.written sink.old) (K.written sink.new)
+        (K.held sink.old) (K.held sink.new) }
     ensures cause { HasCause (K.faults sink.old) (K.faults sink.new) result }
 {
     write_names(sink, "usage: mill_slab ", &COMMANDS[..1], "")?;
@@ -33,6 +35,8 @@ fn write_names<T, K: Sink>(
         (flat_map (λ row. between before.now row.0.now behind.now) table.now)) }
     ensures err { OnErr result (AppendsFront (K.written sink.old) (K.written sink.new)
         (flat_map (λ row. between before.now row.0.now behind.now) table.now)) }
+    ensures held { AppendsToBoth (K.written sink.old) (K.written sink.new)
+        (K.held sink.old) (K.held sink.new) }
     ensures cause { HasCause (K.faults sink.old) (K.faults sink.new) result }
 {
     for row in table {
@@ -47,6 +51,8 @@ fn write_name<K: Sink>(sink: &mut K, before: &str, name: &str, behind: &str) -> 
         (between before.now name.now behind.now)) }
     ensures err { OnErr result (AppendsFront (K.written sink.old) (K.written sink.new)
         (between before.now name.now behind.now)) }
+    ensures held { AppendsToBoth (K.written sink.old) (K.written sink.new)
+        (K.held sink.old) (K.held sink.new) }
     ensures cause { HasCause (K.faults sink.old) (K.faults sink.new) result }
 {
     sink.write_all(before.as_bytes())?;

@@ -215,7 +215,7 @@ module _ (ranked : RankedOrders) (known : IsRanked ranked) (coloured : List Colo
   pub by-rank : IsByColour (rank known.problem.orders) coloured
   by-rank = subst (λ placed. IsByColour placed coloured) known.is.placed by
 
-  same-orders : IsPermutation known.problem.orders (orders_of coloured)
+  pub same-orders : IsPermutation known.problem.orders (orders_of coloured)
   same-orders =
       subst (λ os. IsPermutation os (orders_of coloured)) (placed-orders 0 known.problem.orders)
       (subst (IsPermutation (map (λ (p : Placed). p.order) (placed_from 0 known.problem.orders)))

@@ -9,3 +9,4 @@ pub mod Grouped
 pub mod FileOrders
 pub mod Promise
 pub mod SameFile
+pub mod Walked

@@ -39,7 +39,7 @@ all-take p (suc r) (x ∷ xs) ys h l =
     let a = and-left (p x) (list_all p xs) h in
     rw a (all-take p r xs ys (and-right (p x) (list_all p xs) h) (omega (arith, l)))
 
-all-take-any : (p : ℕ × ℕ → Bool) (r : ℕ) (xs : Pairs) → list_all p xs ≡ true →
+pub all-take-any : (p : ℕ × ℕ → Bool) (r : ℕ) (xs : Pairs) → list_all p xs ≡ true →
     list_all p (take r xs) ≡ true
 all-take-any p zero xs h = refl
 all-take-any p (suc r) [] h = refl

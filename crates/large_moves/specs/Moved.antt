@@ -24,3 +24,9 @@ pub record IsMoved (mill : Mill) (charge : ℕ → ℕ) (orders : List Order) (m
   pub all : closed ≡ Yes → pair_closed mill charge orders after.plan ≡ true
   pub spent : closed ≡ Spent →
       sure_tries moves (before.loss - after.loss) (length orders) < length (pairs_of after.plan)
+
+-- what a walk promises: a legal plan that loses no more
+pub record IsWalked (mill : Mill) (charge : ℕ → ℕ) (orders : List Order) (before after : Start)
+    : Type 0 where
+  pub start : IsStart mill charge orders after
+  pub no_more : after.loss ≤ before.loss

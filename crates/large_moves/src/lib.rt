@@ -12,6 +12,8 @@ mod scan;
 mod slabs;
 #[cfg(test)]
 mod tests;
+mod walking;
 
 pub use closed::Closed;
 pub use moves::pair_moves;
+pub use walking::walk;

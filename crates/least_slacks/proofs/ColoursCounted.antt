@@ -22,7 +22,7 @@ value-at f x (y ∷ ys) d h = elim (or-cases (eqb x (f y)) (holds x (map f ys)) 
 ]
 
 -- and what stands at one of them is a value that they have
-value-held : {X : Type 0} (f : X → ℕ) (xs : List X) (t : ℕ) (d : X) → t < length xs →
+pub value-held : {X : Type 0} (f : X → ℕ) (xs : List X) (t : ℕ) (d : X) → t < length xs →
     holds (f (get_or xs t d)) (map f xs) ≡ true
 value-held f [] t d h = absurd (omega arith)
 value-held f (x ∷ xs) zero d h = or-left (eqb (f x) (f x)) _ (eq-eqb (f x) (f x) refl)

@@ -7,15 +7,13 @@ use Rattle.std.proofs.lemmas.Bool.{cases_lt}
 use Rattle.list_laws.specs.Sets.{holds}
 use Rattle.mill_model.specs.declared.order.Order.{Order}
 use Rattle.list_laws.proofs.Tests.{and-left, and-right, either, or-cases, or-left, or-right, clash}
+use Rattle.list_laws.proofs.Tests.{equal-tests}
 use Rattle.set_minima.specs.Packs.{nobody, colour_at, IsBest, IsTable, IsNext, IsNextColour, better}
 use Rattle.set_minima.specs.Packs.{with_price}
 use Rattle.set_minima.proofs.LeftOut.{single-added, single-heavy}
-use Rattle.set_minima.proofs.OneOrder.{best-added, best-heavy, best-allowed}
-use Rattle.least_slacks.specs.Cells.{cell}
 use Rattle.least_slacks.specs.Items.{item_at, AreItems, placed, owned, others, joined_in, let_in}
-use Rattle.least_slacks.specs.Items.{IsStretch, IsRun, no_place}
+use Rattle.least_slacks.specs.Items.{IsStretch, IsRun, Letting}
 use Rattle.least_slacks.specs.declared.later_orders.Item.{Item}
-use Rattle.least_slacks.proofs.OneCell.{raised}
 
 -- what is among the first items stands at a place below
 pub placed-at : (items : List Item) (t i : ℕ) → placed items t i ≡ true →
@@ -89,23 +87,32 @@ module _ (rest : List Order) (items : List Item) (it : AreItems rest items) wher
       let r = it.all i h in
       subst (λ j. placed items t j ≡ true) r.2 (place-placed items t r.0 (omega (arith, r.1)) r.1)
 
-  -- one item more of the orders whose colours aren't left out
-  pub next-let_in : (out : List ℕ) (t : ℕ) → t < length items →
-      holds (colour_at rest (item_at items t).place) out ≡ false →
-      IsNext (let_in rest items out t) (let_in rest items out (t + 1)) (item_at items t).place
-  next-let_in out t l n = record {
-    new = rw (n, not-placed t l);
-    now = rw (n, place-placed items (t + 1) t (omega arith) l);
-    kept = λ i h.
-        let a : others rest out i ≡ true = and-left (others rest out i) (placed items t i) h in
-        let b : placed items t i ≡ true = and-right (others rest out i) (placed items t i) h in
-        both (others rest out i) (placed items (t + 1) i) a (placed-more t i b);
-    only = λ i h e.
-        let a : others rest out i ≡ true =
-        and-left (others rest out i) (placed items (t + 1) i) h in
-        let b : placed items (t + 1) i ≡ true =
-        and-right (others rest out i) (placed items (t + 1) i) h in
-        both (others rest out i) (placed items t i) a (placed-less t i l b e);
+  -- one item more of an order that is let in
+  pub next-let_in : (letting : Letting) (t : ℕ) → t < length items →
+      holds (colour_at rest (item_at items t).place) letting.before ≡ true →
+      holds (colour_at rest (item_at items t).place) letting.after ≡ false →
+      IsNext (let_in rest items letting t) (let_in rest items letting (t + 1))
+      (item_at items t).place
+  next-let_in letting t l w n = record {
+    new = rw (w, n, not-placed t l);
+    now = rw (w, n, place-placed items (t + 1) t (omega arith) l);
+    kept = λ i h. elim (or-cases (others rest letting.before i)
+        (others rest letting.after i && placed items t i) h) [
+          | inl a ↦ or-left (others rest letting.before i) _ a
+          | inr a ↦ or-right (others rest letting.before i) _
+              (both (others rest letting.after i) (placed items (t + 1) i)
+              (and-left (others rest letting.after i) (placed items t i) a)
+              (placed-more t i (and-right (others rest letting.after i) (placed items t i) a)))
+        ];
+    only = λ i h e. elim (or-cases (others rest letting.before i)
+        (others rest letting.after i && placed items (t + 1) i) h) [
+          | inl a ↦ or-left (others rest letting.before i) _ a
+          | inr a ↦ or-right (others rest letting.before i) _
+              (both (others rest letting.after i) (placed items t i)
+              (and-left (others rest letting.after i) (placed items (t + 1) i) a)
+              (placed-less t i l
+              (and-right (others rest letting.after i) (placed items (t + 1) i) a) e))
+        ];
   }
 
   -- one item more of the orders whose colours were left out
@@ -151,41 +158,15 @@ module _ (rest : List Order) (items : List Item) (it : AreItems rest items) wher
       go false e = rw e refl
       go true e = rw e (same e (placed items t i) (placed items (t + 1) i) refl refl)
 
--- a whole table, where one order is let in
-pub table-adds : (rest : List Order) (prices : List ℤ) → length prices ≡ length rest →
-    (before after : ℕ → Bool) (own : List ℕ) (k j : ℕ) → j < length rest → IsNext before after j →
-    holds (colour_at rest j) own ≡ true → (old new : List ℤ) →
-    ((l : ℕ) → l < length old → cell new l ≡
-    raised (get_or rest j nobody).weight (get_or prices j (pos 0)) old l) →
-    IsTable before own k rest prices (length old) (cell old) →
-    IsTable after own k rest prices (length old) (cell new)
-table-adds rest prices same before after own k j here next paid old new e p l b =
-    elim (either (leb (get_or rest j nobody).weight l)) [
-      | inl t ↦ subst (λ x. IsBest after own k rest prices l x) (sym (rw t at (e l b)))
-          (best-added rest prices same before after own k j here next paid l (leb-true _ _ t)
-          (cell old l) (cell old (l - (get_or rest j nobody).weight)) (p l b)
-          (p (l - (get_or rest j nobody).weight) (omega arith)))
-      | inr t ↦ subst (λ x. IsBest after own k rest prices l x) (sym (rw t at (e l b)))
-          (best-heavy rest prices same before after own k j here next paid l (leb-false _ _ t)
-          (cell old l) (p l b))
-    ]
-
--- the same places by another test
-pub table-allowed : (rest : List Order) (prices : List ℤ) (before after : ℕ → Bool)
-    (own : List ℕ) (k width : ℕ) (best : ℕ → Option ℤ) →
-    ((i : ℕ) → i < length rest → before i ≡ after i) →
-    IsTable before own k rest prices width best → IsTable after own k rest prices width best
-table-allowed rest prices before after own k width best e p l b =
-    best-allowed rest prices before after own k l (best l) e (p l b)
-
 -- no order is among the first items at first
-pub none-let_in : (rest : List Order) (items : List Item) (out : List ℕ) (i : ℕ) →
-    no_place i ≡ let_in rest items out 0 i
-none-let_in rest items out i = go (others rest out i)
+pub none-let_in : (rest : List Order) (items : List Item) (letting : Letting) (i : ℕ) →
+    others rest letting.before i ≡ let_in rest items letting 0 i
+none-let_in rest items letting i = go (others rest letting.before i) (others rest letting.after i)
   where
-    go : (b : Bool) → false ≡ (b && false)
-    go true = refl
-    go false = refl
+    go : (b d : Bool) → b ≡ (b || (d && false))
+    go true d = refl
+    go false true = refl
+    go false false = refl
 
 pub none-joined : (rest : List Order) (items : List Item) (out : List ℕ) (i : ℕ) →
     others rest out i ≡ joined_in rest items out 0 i
@@ -196,26 +177,23 @@ none-joined rest items out i = go (others rest out i)
     go false = refl
 
 -- and in the end all are
-pub all-let_in : (rest : List Order) (items : List Item) → AreItems rest items → (out : List ℕ)
-    (t i : ℕ) → length items ≤ t → i < length rest → let_in rest items out t i ≡ others rest out i
-all-let_in rest items it out t i l h = go (others rest out i) (placed-all rest items it t i l h)
+pub all-let_in : (rest : List Order) (items : List Item) → AreItems rest items →
+    (letting : Letting) (t i : ℕ) → length items ≤ t → i < length rest →
+    (others rest letting.before i ≡ true → others rest letting.after i ≡ true) →
+    let_in rest items letting t i ≡ others rest letting.after i
+all-let_in rest items it letting t i l h within =
+    rw (placed-all rest items it t i l h)
+    (go (others rest letting.before i) (others rest letting.after i) within)
   where
-    go : (b : Bool) → placed items t i ≡ true → (b && placed items t i) ≡ b
-    go b e = rw e (end b)
-      where
-        end : (b : Bool) → (b && true) ≡ b
-        end true = refl
-        end false = refl
+    go : (b d : Bool) → (b ≡ true → d ≡ true) → (b || (d && true)) ≡ d
+    go true d f = sym (f refl)
+    go false true f = refl
+    go false false f = refl
 
 pub all-joined : (rest : List Order) (items : List Item) → AreItems rest items → (out : List ℕ)
     (t i : ℕ) → length items ≤ t → i < length rest → joined_in rest items out t i ≡ true
 all-joined rest items it out t i l h =
     or-right (others rest out i) _ (placed-all rest items it t i l h)
-
-pub table-width : (rest : List Order) (prices : List ℤ) (allowed : ℕ → Bool) (own : List ℕ)
-    (k w v : ℕ) (best : ℕ → Option ℤ) → w ≡ v → IsTable allowed own k rest prices w best →
-    IsTable allowed own k rest prices v best
-table-width rest prices allowed own k w v best e p l b = p l (omega arith)
 
 -- A run of items of one colour.
 
@@ -253,7 +231,7 @@ before-end items at end it l s h = elim (cases_lt s at) [
       omega arith)
 ]
 
-module _ (rest : List Order) (items : List Item) (it : AreItems rest items) (out : List ℕ)
+module _ (rest : List Order) (items : List Item) (it : AreItems rest items) (letting : Letting)
     (at end : ℕ) (run : IsStretch items at end) where
   abbrev its : ℕ
   its = (item_at items at).colour
@@ -269,93 +247,126 @@ module _ (rest : List Order) (items : List Item) (it : AreItems rest items) (out
             (sym (it.coloured r.0 r.2) ∙ run.alike r.0 b r.1))
       ]
 
-  -- a colour that is left out lets nothing in
-  pub run-out : holds its out ≡ true → (i : ℕ) → i < length rest →
-      let_in rest items out at i ≡ let_in rest items out end i
-  run-out o i b =
-      same (let_in rest items out at i) (let_in rest items out end i)
-      (λ h. both (others rest out i) (placed items end i)
-      (and-left (others rest out i) (placed items at i) h)
-      (placed-wider rest items it at end i (let s : at < end = run.some in omega arith)
-      (and-right (others rest out i) (placed items at i) h)))
-      (λ h. let a : others rest out i ≡ true =
-      and-left (others rest out i) (placed items end i) h in
-      both (others rest out i) (placed items at i) a
-      (elim (among-end i (and-right (others rest out i) (placed items end i) h)) [
-        | inl q ↦ q
-        | inr q ↦ absurd (turned (owned rest out i) a (rw q o))
-      ]))
-    where
-      turned : (b : Bool) → not b ≡ true → b ≡ true → ⊥
-      turned true h k = cc
-      turned false h k = cc
+  turned : (b : Bool) → not b ≡ true → b ≡ true → ⊥
+  turned true h k = cc
+  turned false h k = cc
 
-      same : (a b : Bool) → (a ≡ true → b ≡ true) → (b ≡ true → a ≡ true) → a ≡ b
-      same true b f g = sym (f refl)
-      same false true f g = g refl
-      same false false f g = refl
+  -- what is let in with the items before the run is let in with those up to its end
+  still : (i : ℕ) → let_in rest items letting at i ≡ true → let_in rest items letting end i ≡ true
+  still i h = elim (or-cases (others rest letting.before i)
+      (others rest letting.after i && placed items at i) h) [
+        | inl a ↦ or-left (others rest letting.before i) _ a
+        | inr a ↦ or-right (others rest letting.before i) _
+            (both (others rest letting.after i) (placed items end i)
+            (and-left (others rest letting.after i) (placed items at i) a)
+            (placed-wider rest items it at end i (let s : at < end = run.some in omega arith)
+            (and-right (others rest letting.after i) (placed items at i) a)))
+      ]
+
+  -- and the other way round, but for the orders of the run's colour
+  back : (i : ℕ) → let_in rest items letting end i ≡ true →
+      (let_in rest items letting at i ≡ true)
+      ⊎ ((colour_at rest i ≡ its) × (others rest letting.after i ≡ true))
+  back i h = elim (or-cases (others rest letting.before i)
+      (others rest letting.after i && placed items end i) h) [
+        | inl a ↦ inl (or-left (others rest letting.before i) _ a)
+        | inr a ↦ (let d : others rest letting.after i ≡ true =
+            and-left (others rest letting.after i) (placed items end i) a in
+            elim (among-end i (and-right (others rest letting.after i) (placed items end i) a)) [
+              | inl q ↦ inl (or-right (others rest letting.before i) _
+                  (both (others rest letting.after i) (placed items at i) d q))
+              | inr q ↦ inr (q, d)
+            ])
+      ]
+
+  -- a colour that is still left out lets nothing in
+  pub run-out : holds its letting.after ≡ true → (i : ℕ) → i < length rest →
+      let_in rest items letting at i ≡ let_in rest items letting end i
+  run-out o i b =
+      equal-tests (let_in rest items letting at i) (let_in rest items letting end i) (still i) (λ h.
+      elim (back i h) [
+        | inl q ↦ q
+        | inr q ↦ absurd (turned (owned rest letting.after i) q.1 (rw q.0 o))
+      ])
+
+  -- nor does a colour that was let in before
+  pub run-in : holds its letting.before ≡ false → (i : ℕ) → i < length rest →
+      let_in rest items letting at i ≡ let_in rest items letting end i
+  run-in o i b =
+      equal-tests (let_in rest items letting at i) (let_in rest items letting end i) (still i) (λ h.
+      elim (back i h) [
+        | inl q ↦ q
+        | inr q ↦ or-left (others rest letting.before i) _ (rw (q.0, o) refl)
+      ])
 
   -- another colour is let in whole
-  pub run-new : holds its out ≡ false → IsRun rest items out at end its
-  run-new n = record {
+  pub run-new : holds its letting.before ≡ true → holds its letting.after ≡ false →
+      IsRun rest items letting at end its
+  run-new w n = record {
     order = (let s : at < end = run.some in omega arith);
     ends = run.ends;
     alike = λ t a b.
         sym (it.coloured t (let e : end ≤ length items = run.ends in omega arith))
         ∙ run.alike t a b;
+    was_out = w;
     not_out = n;
     next = record {
-      new = λ i b h.
-          let r = placed-at items at i (and-right (others rest out i) (placed items at i) h) in
-          let l : (item_at items r.0).colour < its = run.before r.0 r.1 in
-          let e : (item_at items r.0).colour ≡ colour_at rest i =
-          it.coloured r.0 r.2 ∙ ap (colour_at rest) r.3 in
-          ne_eqb (colour_at rest i) its (λ q. absurd (omega arith));
-      kept = λ i b h. both (others rest out i) (placed items end i)
-          (and-left (others rest out i) (placed items at i) h)
-          (placed-wider rest items it at end i (let s : at < end = run.some in omega arith)
-          (and-right (others rest out i) (placed items at i) h));
-      only = λ i b h e. both (others rest out i) (placed items at i)
-          (and-left (others rest out i) (placed items end i) h)
-          (elim (among-end i (and-right (others rest out i) (placed items end i) h)) [
-            | inl q ↦ q
-            | inr q ↦ absurd (clash (eqb (colour_at rest i) its)
-                (eq-eqb (colour_at rest i) its q) e)
-          ]);
+      new = λ i b h. elim (or-cases (others rest letting.before i)
+          (others rest letting.after i && placed items at i) h) [
+            | inl a ↦ ne_eqb (colour_at rest i) its
+                (λ q. turned (owned rest letting.before i) a (rw q w))
+            | inr a ↦ (let r = placed-at items at i
+                (and-right (others rest letting.after i) (placed items at i) a) in
+                let l : (item_at items r.0).colour < its = run.before r.0 r.1 in
+                let e : (item_at items r.0).colour ≡ colour_at rest i =
+                it.coloured r.0 r.2 ∙ ap (colour_at rest) r.3 in
+                ne_eqb (colour_at rest i) its (λ q. absurd (omega arith)))
+          ];
+      kept = λ i b h. still i h;
+      only = λ i b h e. elim (back i h) [
+        | inl q ↦ q
+        | inr q ↦ absurd (clash (eqb (colour_at rest i) its)
+            (eq-eqb (colour_at rest i) its q.0) e)
+      ];
     };
   }
 
 -- A run of one item, which comes into a layer from the one below in one pass.
 pub layer-single : (rest : List Order) (prices : List ℤ) (items : List Item) →
-    AreItems rest items → length prices ≡ length rest → (out : List ℕ) (t colour k width : ℕ) →
-    t < length items → IsRun rest items out t (t + 1) colour → (below here new : ℕ → Option ℤ) →
+    AreItems rest items → length prices ≡ length rest → (letting : Letting) (t colour k width : ℕ) →
+    t < length items → IsRun rest items letting t (t + 1) colour → (below here new : ℕ → Option ℤ) →
     ((l : ℕ) → l < width →
     new l ≡ cond (leb (get_or rest (item_at items t).place nobody).weight l)
     (better (here l) (with_price (get_or prices (item_at items t).place (pos 0))
     (below (l - (get_or rest (item_at items t).place nobody).weight)))) (here l)) →
-    IsTable (let_in rest items out t) [] k rest prices width below →
-    IsTable (let_in rest items out t) [] (suc k) rest prices width here →
-    IsTable (let_in rest items out (t + 1)) [] (suc k) rest prices width new
-layer-single rest prices items it same out t colour k width h run below here new e p q l b =
+    IsTable (let_in rest items letting t) [] k rest prices width below →
+    IsTable (let_in rest items letting t) [] (suc k) rest prices width here →
+    IsTable (let_in rest items letting (t + 1)) [] (suc k) rest prices width new
+layer-single rest prices items it same letting t colour k width h run below here new e p q l b =
     let j = (item_at items t).place in
     let inside : j < length rest = it.inside t h in
     let its : colour_at rest j ≡ colour = run.alike t (omega arith) (omega arith) in
-    let n : holds (colour_at rest j) out ≡ false = rw its run.not_out in
-    let next = next-let_in rest items it out t h n in
-    let from_run : IsNextColour rest (let_in rest items out t) (let_in rest items out (t + 1))
+    let w : holds (colour_at rest j) letting.before ≡ true = rw its run.was_out in
+    let n : holds (colour_at rest j) letting.after ≡ false = rw its run.not_out in
+    let next = next-let_in rest items it letting t h w n in
+    let from_run : IsNextColour rest (let_in rest items letting t) (let_in rest items letting (t +
+    1))
     (colour_at rest j) =
-    subst (λ c. IsNextColour rest (let_in rest items out t) (let_in rest items out (t + 1)) c)
+    subst (λ c. IsNextColour rest (let_in rest items letting t) (let_in rest items letting (t + 1))
+    c)
     (sym its) run.next in
     elim (either (leb (get_or rest j nobody).weight l)) [
-      | inl s ↦ subst (λ x. IsBest (let_in rest items out (t + 1)) [] (suc k) rest prices l x)
+      | inl s ↦ subst (λ x. IsBest (let_in rest items letting (t + 1)) [] (suc k) rest prices l x)
           (sym (rw s at (e l b)))
-          (single-added rest (let_in rest items out t) (let_in rest items out (t + 1)) [] prices
+          (single-added rest (let_in rest items letting t) (let_in rest items letting (t + 1)) []
+          prices
           same j inside next from_run refl k l (leb-true _ _ s) (here l) (below l)
           (below (l - (get_or rest j nobody).weight)) (q l b) (p l b)
           (p (l - (get_or rest j nobody).weight) (omega arith)))
-      | inr s ↦ subst (λ x. IsBest (let_in rest items out (t + 1)) [] (suc k) rest prices l x)
+      | inr s ↦ subst (λ x. IsBest (let_in rest items letting (t + 1)) [] (suc k) rest prices l x)
           (sym (rw s at (e l b)))
-          (single-heavy rest (let_in rest items out t) (let_in rest items out (t + 1)) [] prices
+          (single-heavy rest (let_in rest items letting t) (let_in rest items letting (t + 1)) []
+          prices
           same j inside next from_run refl k l (leb-false _ _ s) (here l) (below l) (q l b)
           (p l b))
     ]

@@ -17,7 +17,7 @@ use Rattle.set_minima.proofs.Least.{on-is}
 use Rattle.mill_model.specs.declared.prices.TheConstants.{MAX_PRICE}
 use Rattle.mill_model.specs.declared.order.TheConstants.{MAX_ORDERS}
 use Rattle.mill_model.specs.declared.charges.TheConstants.{MAX_CHARGE}
-use Rattle.least_slacks.specs.Cells.{found, IsSmall, ArePrices}
+use Rattle.set_minima.specs.Cells.{found, IsSmall, ArePrices}
 
 -- each charge is small, also past the last one
 charge-small : (charges : List ℕ) → All (λ charge. charge ≤ MAX_CHARGE) charges → (l : ℕ) →

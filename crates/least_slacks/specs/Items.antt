@@ -1,5 +1,6 @@
 -- The later orders, each once, colour by colour: an item for each of them.
-use Rattle.std.specs.Prelude.{ℕ, ◌<◌, ◌≤◌, ◌≡◌, Bool, false, not, ◌&&◌, ◌||◌, eqb, List, length}
+use Rattle.std.specs.Prelude.{ℕ, ◌<◌, ◌≤◌, ◌≡◌, Bool, true, false, not, ◌&&◌, ◌||◌, eqb, List}
+use Rattle.std.specs.Prelude.{length}
 use Rattle.std.specs.Prelude.{take, slice_index_or}
 use Rattle.std.specs.List.{list_any}
 use Rattle.list_laws.specs.Sets.{holds}
@@ -40,10 +41,17 @@ owned rest own i = holds (colour_at rest i) own
 abbrev pub others : List Order → List ℕ → ℕ → Bool
 others rest out i = not (owned rest out i)
 
--- the same among the first t items alone, and the same or among them
-abbrev pub let_in : List Order → List Item → List ℕ → ℕ → ℕ → Bool
-let_in rest items out t i = others rest out i && placed items t i
+-- the colours that are left out before some are let in, and those that still are after that
+pub record Letting : Type 0 where
+  pub before : List ℕ
+  pub after : List ℕ
 
+-- whether an order was let in before, or is let in with the first t items
+abbrev pub let_in : List Order → List Item → Letting → ℕ → ℕ → Bool
+let_in rest items letting t i =
+    others rest letting.before i || (others rest letting.after i && placed items t i)
+
+-- whether an order has none of the colours that are left out, or is among the first t items
 abbrev pub joined_in : List Order → List Item → List ℕ → ℕ → ℕ → Bool
 joined_in rest items out t i = others rest out i || placed items t i
 
@@ -56,14 +64,16 @@ pub record IsStretch (items : List Item) (at end : ℕ) : Type 0 where
   pub after :
       (t : ℕ) → end ≤ t → t < length items → (item_at items at).colour < (item_at items t).colour
 
--- the same, where the colour isn't left out
-pub record IsRun (rest : List Order) (items : List Item) (out : List ℕ) (at end colour : ℕ) : Type 0
-  where
-    pub order : at ≤ end
-    pub ends : end ≤ length items
-    pub alike : (t : ℕ) → at ≤ t → t < end → colour_at rest (item_at items t).place ≡ colour
-    pub not_out : holds colour out ≡ false
-    pub next : IsNextColour rest (let_in rest items out at) (let_in rest items out end) colour
+-- the same, where the colour is let in
+pub record IsRun (rest : List Order) (items : List Item) (letting : Letting) (at end colour : ℕ)
+    : Type 0 where
+  pub order : at ≤ end
+  pub ends : end ≤ length items
+  pub alike : (t : ℕ) → at ≤ t → t < end → colour_at rest (item_at items t).place ≡ colour
+  pub was_out : holds colour letting.before ≡ true
+  pub not_out : holds colour letting.after ≡ false
+  pub next :
+      IsNextColour rest (let_in rest items letting at) (let_in rest items letting end) colour
 
 -- no order is let in
 abbrev pub no_place : ℕ → Bool

@@ -5,8 +5,8 @@ use Rattle.mill_model.specs.Slab.{load}
 use Rattle.mill_model.specs.declared.order.Order.{Order}
 use Rattle.set_minima.specs.Packs.{IsTable, colour_at}
 use Rattle.set_minima.specs.Joins.{AreOrders}
-use Rattle.least_slacks.specs.Cells.{cell, ArePrices}
-use Rattle.least_slacks.specs.Items.{AreItems, IsRun, let_in, joined_in, others}
+use Rattle.set_minima.specs.Cells.{ArePrices, AreLayers}
+use Rattle.least_slacks.specs.Items.{AreItems, IsRun, Letting, let_in, joined_in, others}
 use Rattle.least_slacks.specs.declared.later_orders.LaterOrders.{LaterOrders}
 use Rattle.mill_model.specs.declared.order.TheConstants.{MAX_ORDERS}
 
@@ -19,13 +19,13 @@ pub record IsLater (later : LaterOrders) : Type 0 where
   pub weighs : later.weight ≡ load later.rest.now
   pub coloured : different (map (λ order. order.colour) later.rest.now) ≤ later.kinds
 
--- the orders that have none of the colours that are left out; of them, those among the first t
--- items; and with those among the first t items
+-- the orders that have none of the colours that are left out; those that are let in with the first
+-- t items; and the former with all of the first t items
 abbrev pub others_of : LaterOrders → List ℕ → ℕ → Bool
 others_of later out = others later.rest.now out
 
-abbrev pub let_to : LaterOrders → List ℕ → ℕ → ℕ → Bool
-let_to later out t = let_in later.rest.now later.items.now out t
+abbrev pub let_to : LaterOrders → Letting → ℕ → ℕ → Bool
+let_to later letting t = let_in later.rest.now later.items.now letting t
 
 abbrev pub joined_to : LaterOrders → List ℕ → ℕ → ℕ → Bool
 joined_to later out t = joined_in later.rest.now later.items.now out t
@@ -36,19 +36,13 @@ HaveSame later own out =
     (i : ℕ) → i < length later.rest.now →
     holds (colour_at later.rest.now i) own ≡ holds (colour_at later.rest.now i) out
 
--- items from one place to another are those of a colour that isn't left out
-abbrev pub IsRunOf : LaterOrders → List ℕ → ℕ → ℕ → ℕ → Type 0
-IsRunOf later out at end colour = IsRun later.rest.now later.items.now out at end colour
+-- items from one place to another are those of a colour that is let in
+abbrev pub IsRunOf : LaterOrders → Letting → ℕ → ℕ → ℕ → Type 0
+IsRunOf later letting at end colour = IsRun later.rest.now later.items.now letting at end colour
 
 abbrev pub IsTableOf : LaterOrders → (ℕ → Bool) → List ℕ → ℕ → ℕ → (ℕ → Option ℤ) → Type 0
 IsTableOf later allowed own k width cells =
     IsTable allowed own k later.rest.now later.prices.now width cells
-
--- layers of one width one after another: layer t has the sets of at most t colours
-abbrev pub AreLayers : (ℕ → Bool) → List Order → List ℤ → ℕ → ℕ → List ℤ → Type 0
-AreLayers allowed rest prices layers width tables =
-    (t : ℕ) → t < layers →
-    IsTable allowed [] t rest prices width (λ l. cell tables (t * width + l))
 
 abbrev pub AreLayersOf : LaterOrders → (ℕ → Bool) → ℕ → ℕ → List ℤ → Type 0
 AreLayersOf later allowed layers width tables =

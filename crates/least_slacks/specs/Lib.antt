@@ -1,5 +1,5 @@
-pub mod Cells
 pub mod Items
 pub mod Later
 pub mod Keys
 pub mod Limits
+pub mod Parts

@@ -5,10 +5,10 @@ ghost use Rattle.std.specs.Prelude.{◌∷◌, [], cond, leb, length, slice_inde
 ghost use Rattle.list_laws.specs.Sets.{holds};
 ghost use Rattle.set_minima.specs.Packs.{better, with_price, colour_at, IsNext};
 ghost use Rattle.set_minima.specs.Joins.{all_places};
-ghost use Rattle.least_slacks.specs.Cells.{cell, found, IsNear, AreNear, IsSmall};
+ghost use Rattle.set_minima.specs.Cells.{cell, found, IsNear, AreNear, IsSmall};
+ghost use Rattle.least_slacks.specs.Items.{Letting};
 ghost use Rattle.least_slacks.specs.Later.{IsLater, IsTableOf, IsRunOf, HaveSame, let_to};
 ghost use Rattle.least_slacks.specs.Later.{joined_to, others_of};
-ghost use Rattle.mill_model.specs.Limits.{all_prices};
 ghost use Rattle.mill_model.specs.declared.prices.TheConstants.{MAX_PRICE};
 
 use crate::later_orders::{Item, LaterOrders, has_colour};
@@ -94,14 +94,14 @@ pub(crate) fn add_run(table: &mut [i64], later: &LaterOrders, at: usize, end: us
     requires order { at ≤ end }
     requires ends { end ≤ length later.now.items.now }
     requires near { AreNear (2 ^ 58) table.old }
-    ensures best { (out : List ℕ) → (colour k : ℕ) →
-        IsRunOf later.now out at end colour →
-        IsTableOf later.now (let_to later.now out at) (colour ∷ []) k
+    ensures best { (letting : Letting) → (colour k : ℕ) →
+        IsRunOf later.now letting at end colour →
+        IsTableOf later.now (let_to later.now letting at) (colour ∷ []) k
         (length table.old) (cell table.old) →
-        IsTableOf later.now (let_to later.now out end) (colour ∷ []) k
+        IsTableOf later.now (let_to later.now letting end) (colour ∷ []) k
         (length table.old) (cell table.new) }
     ensures near { (n : ℕ) → AreNear n table.old →
-        AreNear (n + all_prices) table.new }
+        AreNear (n + (end - at) * MAX_PRICE) table.new }
 {
     for t in at..end {
         add_item(table, later, later.items[t]);

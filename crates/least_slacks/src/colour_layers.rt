@@ -3,15 +3,17 @@
 ghost use Rattle.std.specs.Prelude.{◌≡◌, ℕ, List, [], suc, ◌+◌, ◌-◌, ◌*◌, ◌^◌, ◌<◌, ◌≤◌, ◌⊎◌, ◌≢◌};
 ghost use Rattle.std.specs.Prelude.{length, slice_index_or, pos};
 ghost use Rattle.std.specs.Int.{int_max};
-ghost use Rattle.least_slacks.specs.Cells.{cell, AreNear};
-ghost use Rattle.least_slacks.specs.Items.{IsStretch, item_at, no_place};
+ghost use Rattle.set_minima.specs.Cells.{cell, IsNear, AreNear};
+ghost use Rattle.least_slacks.specs.Items.{IsStretch, Letting, item_at};
 ghost use Rattle.least_slacks.specs.Later.{IsLater, IsTableOf, AreLayersOf, IsRunOf, let_to};
 ghost use Rattle.least_slacks.specs.Later.{others_of};
+ghost use Rattle.least_slacks.specs.Parts.{IsWithin, letting_of, out_of};
 ghost use Rattle.mill_model.specs.Limits.{all_prices};
 ghost use Rattle.mill_model.specs.declared.prices.TheConstants.{MAX_PRICE};
 
 use crate::best_prices::{add_run, raise_cells};
-use crate::later_orders::{Item, LaterOrders, has_colour};
+use crate::later_orders::{Item, LaterOrders};
+use crate::parts::Part;
 
 /// Copies the layer that begins at `at` into a table.
 pub(crate) fn copy_layer(table: &mut [i64], tables: &[i64], at: usize)
@@ -24,16 +26,17 @@ pub(crate) fn copy_layer(table: &mut [i64], tables: &[i64], at: usize)
     }
 }
 
-/// Puts a table where a layer begins.
-fn put_layer(tables: &mut [i64], table: &[i64], at: usize)
-    requires { at + length table.now ≤ length tables.old }
-    ensures here { (l : ℕ) → l < length table.now →
-        slice_index_or tables.new (at + l) (pos 0) ≡ slice_index_or table.now l (pos 0) }
-    ensures other { (i : ℕ) → i < at ⊎ at + length table.now ≤ i →
+/// Puts so many loads of a table, from the one at `from` on, where a layer begins.
+fn put_layer(tables: &mut [i64], at: usize, width: usize, table: &[i64], from: usize)
+    requires inside { at + width ≤ length tables.old }
+    requires there { from + width ≤ length table.now }
+    ensures here { (l : ℕ) → l < width →
+        slice_index_or tables.new (at + l) (pos 0) ≡ slice_index_or table.now (from + l) (pos 0) }
+    ensures other { (i : ℕ) → i < at ⊎ at + width ≤ i →
         slice_index_or tables.new i (pos 0) ≡ slice_index_or tables.old i (pos 0) }
 {
-    for l in 0..table.len() {
-        tables[at + l] = table[l];
+    for l in 0..width {
+        tables[at + l] = table[from + l];
     }
 }
 
@@ -65,18 +68,19 @@ fn raise_by_run(
     requires order { run.0 ≤ run.1 }
     requires ends { run.1 ≤ length later.now.items.now }
     requires near { AreNear (2 ^ 58) tables.old }
-    ensures best { (out : List ℕ) → (colour k : ℕ) →
-        IsRunOf later.now out run.0 run.1 colour →
-        IsTableOf later.now (let_to later.now out run.0) [] k (length table.old)
+    ensures best { (letting : Letting) → (colour k : ℕ) →
+        IsRunOf later.now letting run.0 run.1 colour →
+        IsTableOf later.now (let_to later.now letting run.0) [] k (length table.old)
         (λ l. cell tables.old ((t - 1) * length table.old + l)) →
-        IsTableOf later.now (let_to later.now out run.0) [] (suc k)
+        IsTableOf later.now (let_to later.now letting run.0) [] (suc k)
         (length table.old) (λ l. cell tables.old (t * length table.old + l)) →
-        IsTableOf later.now (let_to later.now out run.1) [] (suc k)
+        IsTableOf later.now (let_to later.now letting run.1) [] (suc k)
         (length table.old) (λ l. cell tables.new (t * length table.old + l)) }
     ensures other { (i : ℕ) → i < t * length table.old ⊎
         t * length table.old + length table.old ≤ i →
         slice_index_or tables.new i (pos 0) ≡ slice_index_or tables.old i (pos 0) }
-    ensures near { (n : ℕ) → AreNear n tables.old → AreNear (n + all_prices) tables.new }
+    ensures near { (n : ℕ) → AreNear n tables.old →
+        AreNear (n + (run.1 - run.0) * MAX_PRICE) tables.new }
 {
     let width = table.len();
     copy_layer(table, tables, (t - 1) * width);
@@ -91,13 +95,13 @@ fn raise_by_order(tables: &mut [i64], later: &LaterOrders, at: usize, width: usi
     requires inside { t * width + width ≤ length tables.old }
     requires here { at < length later.now.items.now }
     requires near { AreNear (2 ^ 58) tables.old }
-    ensures best { (out : List ℕ) → (colour k : ℕ) →
-        IsRunOf later.now out at (at + 1) colour →
-        IsTableOf later.now (let_to later.now out at) [] k width
+    ensures best { (letting : Letting) → (colour k : ℕ) →
+        IsRunOf later.now letting at (at + 1) colour →
+        IsTableOf later.now (let_to later.now letting at) [] k width
         (λ l. cell tables.old ((t - 1) * width + l)) →
-        IsTableOf later.now (let_to later.now out at) [] (suc k) width
+        IsTableOf later.now (let_to later.now letting at) [] (suc k) width
         (λ l. cell tables.old (t * width + l)) →
-        IsTableOf later.now (let_to later.now out (at + 1)) [] (suc k) width
+        IsTableOf later.now (let_to later.now letting (at + 1)) [] (suc k) width
         (λ l. cell tables.new (t * width + l)) }
     ensures other { (i : ℕ) → i < t * width ⊎ t * width + width ≤ i →
         slice_index_or tables.new i (pos 0) ≡ slice_index_or tables.old i (pos 0) }
@@ -123,18 +127,19 @@ fn raise_layer(
     requires order { run.0 ≤ run.1 }
     requires ends { run.1 ≤ length later.now.items.now }
     requires near { AreNear (2 ^ 58) tables.old }
-    ensures best { (out : List ℕ) → (colour k : ℕ) →
-        IsRunOf later.now out run.0 run.1 colour →
-        IsTableOf later.now (let_to later.now out run.0) [] k (length table.old)
+    ensures best { (letting : Letting) → (colour k : ℕ) →
+        IsRunOf later.now letting run.0 run.1 colour →
+        IsTableOf later.now (let_to later.now letting run.0) [] k (length table.old)
         (λ l. cell tables.old ((t - 1) * length table.old + l)) →
-        IsTableOf later.now (let_to later.now out run.0) [] (suc k)
+        IsTableOf later.now (let_to later.now letting run.0) [] (suc k)
         (length table.old) (λ l. cell tables.old (t * length table.old + l)) →
-        IsTableOf later.now (let_to later.now out run.1) [] (suc k)
+        IsTableOf later.now (let_to later.now letting run.1) [] (suc k)
         (length table.old) (λ l. cell tables.new (t * length table.old + l)) }
     ensures other { (i : ℕ) → i < t * length table.old ⊎
         t * length table.old + length table.old ≤ i →
         slice_index_or tables.new i (pos 0) ≡ slice_index_or tables.old i (pos 0) }
-    ensures near { (n : ℕ) → AreNear n tables.old → AreNear (n + all_prices) tables.new }
+    ensures near { (n : ℕ) → AreNear n tables.old →
+        AreNear (n + (run.1 - run.0) * MAX_PRICE) tables.new }
 {
     if run.1 == run.0 + 1 {
         raise_by_order(tables, later, run.0, table.len(), t);
@@ -157,29 +162,39 @@ fn add_colour(
     requires order { run.0 ≤ run.1 }
     requires ends { run.1 ≤ length later.now.items.now }
     requires near { AreNear 200000000000000000 tables.old }
-    ensures best { (out : List ℕ) → (colour : ℕ) →
-        IsRunOf later.now out run.0 run.1 colour →
-        AreLayersOf later.now (let_to later.now out run.0) layers
+    ensures best { (letting : Letting) → (colour : ℕ) →
+        IsRunOf later.now letting run.0 run.1 colour →
+        AreLayersOf later.now (let_to later.now letting run.0) layers
         (length table.old) tables.old →
-        AreLayersOf later.now (let_to later.now out run.1) layers
+        AreLayersOf later.now (let_to later.now letting run.1) layers
         (length table.old) tables.new }
-    ensures near { (n : ℕ) → AreNear n tables.old → AreNear (n + (9 * all_prices)) tables.new }
+    ensures near { (n : ℕ) → AreNear n tables.old →
+        AreNear (n + (run.1 - run.0) * (9 * MAX_PRICE)) tables.new }
 {
     for t in (1..layers).rev() {
         raise_layer(tables, table, later, run, t);
     }
 }
 
-/// Puts one table into all layers.
-pub(crate) fn spread_layer(tables: &mut [i64], table: &[i64], layers: usize)
-    requires { length tables.old ≡ layers * length table.now }
-    ensures is { (t : ℕ) → t < layers → (l : ℕ) → l < length table.now →
-        slice_index_or tables.new (t * length table.now + l) (pos 0)
-        ≡ slice_index_or table.now l (pos 0) }
-    ensures near { (n : ℕ) → AreNear n table.now → AreNear n tables.new }
+/// Fills layers of a width with the fronts of others, each of which begins `apart` after the one
+/// before; with one table, where `apart` is 0.
+pub(crate) fn copy_layers(
+    tables: &mut [i64],
+    width: usize,
+    layers: usize,
+    from: &[i64],
+    apart: usize,
+)
+    requires shape { length tables.old ≡ layers * width }
+    requires there { (t : ℕ) → t < layers → t * apart + width ≤ length from.now }
+    ensures is { (t : ℕ) → t < layers → (l : ℕ) → l < width →
+        slice_index_or tables.new (t * width + l) (pos 0)
+        ≡ slice_index_or from.now (t * apart + l) (pos 0) }
+    ensures near { (n : ℕ) → ((t : ℕ) → t < layers → (l : ℕ) → l < width →
+        IsNear n (slice_index_or from.now (t * apart + l) (pos 0))) → AreNear n tables.new }
 {
     for t in 0..layers {
-        put_layer(tables, table, t * table.len());
+        put_layer(tables, t * width, width, from, t * apart);
     }
 }
 
@@ -201,12 +216,12 @@ fn run_end(items: &[Item], at: usize) -> usize
     items.len()
 }
 
-/// Lets the orders of a colour into all layers but the first, where it isn't left out.
+/// Lets the orders of a colour into all layers but the first, where a part asks for it.
 fn add_next(
     tables: &mut [i64],
     table: &mut [i64],
     later: &LaterOrders,
-    out: &[u16],
+    part: &Part,
     run: (usize, usize),
     layers: usize,
 )
@@ -215,38 +230,43 @@ fn add_next(
     requires layers { layers ≤ 9 }
     requires stretch { IsStretch later.now.items.now run.0 run.1 }
     requires near { AreNear 200000000000000000 tables.old }
-    ensures best { AreLayersOf later.now (let_to later.now out.now run.0) layers
+    ensures best { AreLayersOf later.now
+        (let_to later.now (letting_of later.now.rest.now part.now) run.0) layers
         (length table.old) tables.old →
-        AreLayersOf later.now (let_to later.now out.now run.1) layers
-        (length table.old) tables.new }
-    ensures near { (n : ℕ) → AreNear n tables.old → AreNear (n + (9 * all_prices)) tables.new }
+        AreLayersOf later.now (let_to later.now (letting_of later.now.rest.now part.now) run.1)
+        layers (length table.old) tables.new }
+    ensures near { (n : ℕ) → AreNear n tables.old →
+        AreNear (n + (run.1 - run.0) * (9 * MAX_PRICE)) tables.new }
 {
-    if !has_colour(out, later.items[run.0].colour) {
+    if part.lets_in(later.items[run.0].colour) {
         add_colour(tables, table, later, run, layers);
     }
 }
 
-/// Lets the orders of all colours that aren't left out into layers of the empty set, one colour
-/// after another.
+/// Lets the orders of all colours that a part asks for into layers, one colour after another.
 pub(crate) fn add_colours(
     tables: &mut [i64],
     table: &mut [i64],
     later: &LaterOrders,
-    out: &[u16],
+    part: &Part,
     layers: usize,
 )
     requires later { IsLater later.now }
     requires shape { layers * length table.old ≤ length tables.old }
     requires layers { layers ≤ 9 }
-    requires near { AreNear 0 tables.old }
-    ensures best { AreLayersOf later.now no_place layers (length table.old) tables.old →
-        AreLayersOf later.now (others_of later.now out.now) layers (length table.old) tables.new }
-    ensures near { AreNear 200000000000000000 tables.new }
+    requires within { IsWithin part.now }
+    requires near { AreNear 100000000000000000 tables.old }
+    ensures best { AreLayersOf later.now
+        (others_of later.now (letting_of later.now.rest.now part.now).before) layers
+        (length table.old) tables.old →
+        AreLayersOf later.now (others_of later.now (out_of part.now.most part.now.keys.now)) layers
+        (length table.old) tables.new }
+    ensures near { (n : ℕ) → AreNear n tables.old → AreNear (n + 9 * all_prices) tables.new }
 {
     let mut at = 0;
     while at < later.items.len() {
         let end = run_end(later.items, at);
-        add_next(tables, table, later, out, (at, end), layers);
+        add_next(tables, table, later, part, (at, end), layers);
         at = end;
     }
 }

@@ -6,12 +6,14 @@
 
 mod best_prices;
 mod colour_layers;
+mod halving;
 mod key;
 mod later_orders;
 mod least_slack;
 mod limits;
+mod parts;
 
+pub use halving::{SlackTables, least_slacks};
 pub use key::{Key, NO_COLOUR};
 pub use later_orders::has_colour;
-pub use least_slack::{SlackTables, least_slacks};
 pub use limits::SlabLimits;

@@ -6,15 +6,12 @@ use Rattle.std.proofs.Common.{le_antisymm}
 use Rattle.std.proofs.lemmas.Bool.Decides.{nat_tests}
 use Rattle.std.specs.List.{list_all}
 use Rattle.list_laws.specs.Sets.{holds, different, below}
+use Rattle.list_laws.specs.Without.{without}
 use Rattle.list_laws.proofs.Tests.{either, or-cases, or-left, or-right}
 use Rattle.list_laws.proofs.Lists.{length-below}
 
 abbrev pub Within : List ℕ → List ℕ → Type 0
 Within xs ys = (x : ℕ) → holds x xs ≡ true → holds x ys ≡ true
-
-abbrev without : ℕ → List ℕ → List ℕ
-without x [] = []
-without x (y ∷ ys) = cond (eqb x y) (without x ys) (y ∷ without x ys)
 
 pub without-none : (x : ℕ) (ys : List ℕ) → holds x ys ≡ false → without x ys ≡ ys
 without-none x [] h = refl

@@ -6,3 +6,4 @@ pub mod Sums
 pub mod LastPlaces
 pub mod Times
 pub mod Matching
+pub mod InOrder

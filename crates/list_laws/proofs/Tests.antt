@@ -1,6 +1,7 @@
 -- Truth values, and the least number of which something holds.
 use Rattle.std.proofs.Common.{ℕ, suc, ◌<◌, ◌≡◌, ◌⊎◌, eqb, ltb, Bool, true, false, ◌&&◌, ◌||◌, refl}
 use Rattle.std.proofs.Common.{sym, arith, inl, inr, eqb-true, ltb-true, eq-or-lt_of_le}
+use Rattle.std.proofs.Common.{IsTrue, ◌↔◌}
 use Rattle.std.proofs.lemmas.Bool.{cases_lt}
 
 pub either : (b : Bool) → (b ≡ true) ⊎ (b ≡ false)
@@ -34,6 +35,17 @@ pub equal-tests : (a b : Bool) → (a ≡ true → b ≡ true) → (b ≡ true �
 equal-tests true b f g = sym (f refl)
 equal-tests false true f g = g refl
 equal-tests false false f g = refl
+
+-- an answer that is told by a test
+pub same-answer : (answer test : Bool) → IsTrue answer ↔ (test ≡ true) → answer ≡ test
+same-answer true test told = sym (told.0 refl)
+same-answer false true told = told.1 refl
+same-answer false false told = refl
+
+pub or-swap : (a b c : Bool) → (a || (b || c)) ≡ (b || (a || c))
+or-swap true true c = refl
+or-swap true false c = refl
+or-swap false b c = refl
 
 -- how the heads of two lists compare, of which one comes before the other
 pub head-cases : (g h : ℕ) (b : Bool) → (ltb g h || (eqb g h && b)) ≡ true →

@@ -14,7 +14,7 @@ use Rattle.list_laws.proofs.Different.{different-length}
 use Rattle.list_laws.proofs.Among.{Among}
 use Rattle.list_laws.proofs.Times.{times-append}
 use Rattle.log_checker.specs.Keys.{AreComing}
-use Rattle.log_checker.proofs.Sorted.{InOrder, in-order-from, times-moved}
+use Rattle.list_laws.proofs.InOrder.{InOrder, in-order-from, times-moved}
 
 -- one colour more in front of the padding
 pub note-step : (xs : List ℕ) (n c : ℕ) → set (xs ++ replicate (suc n) 65535) (length xs) c

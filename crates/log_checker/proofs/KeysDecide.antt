@@ -30,7 +30,7 @@ use Rattle.least_slacks.specs.declared.key.Key.{Key}
 use Rattle.log_checker.specs.declared.keys.LiveGroup.{LiveGroup}
 use Rattle.log_checker.proofs.ComingColours.{coming-same, same-coming}
 use Rattle.log_checker.proofs.LiveGroups.{both-ways}
-use Rattle.log_checker.proofs.Sorted.{InOrder, in-order-from, ordered-same, times-moved}
+use Rattle.list_laws.proofs.InOrder.{InOrder, in-order-from, ordered-same, times-moved}
 
 -- the later orders see the same of two groups exactly where the same colours come again
 alike : (p q : ℕ → Bool) (rest : List Order) → same_marks (map (λ o. p o.colour) rest)

@@ -1,7 +1,6 @@
 pub mod GroupsOfPath
 pub mod KeysDecide
 pub mod LastRanks
-pub mod Sorted
 pub mod ComingColours
 pub mod SmallNumbers
 pub mod OrdersInRank

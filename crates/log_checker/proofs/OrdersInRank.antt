@@ -1,5 +1,5 @@
 -- Orders in rank, by two stable sorts.
-use Rattle.std.proofs.Common.{ℕ, suc, ◌+◌, ◌-◌, ◌<◌, ◌≤◌, ◌≡◌, ◌⊎◌, true, false, cond, List, []}
+use Rattle.std.proofs.Common.{ℕ, suc, ◌+◌, ◌-◌, ◌<◌, ◌≤◌, ◌≡◌, true, false, cond, subst, List, []}
 use Rattle.std.proofs.Common.{◌∷◌, map, length, get_or, refl, sym, ap, ap₂, ◌∙◌, arith, inl, inr}
 use Rattle.std.proofs.lemmas.Bool.Decides.{nat_tests}
 use Rattle.std.specs.List.{All}
@@ -7,17 +7,14 @@ use Rattle.std.specs.List.Sorted.{IsPermutation, IsNonDecreasingBy}
 use Rattle.mill_model.specs.Instance.{IsOrder}
 use Rattle.list_laws.specs.Sets.{times}
 use Rattle.mill_model.specs.Rank.{Placed, is_before, same_order, put_in_rank, rank_from}
-use Rattle.mill_model.specs.Rank.{ranked_orders}
+use Rattle.mill_model.specs.Rank.{ranked_orders, rank, precedes}
+use Rattle.mill_laws.specs.RankLaws.{Rising}
+use Rattle.mill_laws.proofs.Ranking.{rank-rising}
+use Rattle.mill_laws.proofs.Settle.{same_order-eq}
 use Rattle.mill_model.specs.declared.order.Order.{Order}
-use Rattle.list_laws.proofs.Among.{Among}
+use Rattle.list_laws.proofs.Among.{Among, Among-unmap, each-at}
 use Rattle.list_laws.proofs.Tests.{either}
-use Rattle.log_checker.proofs.Sorted.{InOrder, ordered-same, times-moved}
-
-same-is : (a b : Order) → same_order a b ≡ true → a ≡ b
-same-is a b h =
-    let w : a.weight ≡ b.weight = grind (arith, nat_tests) in
-    let c : a.colour ≡ b.colour = grind (arith, nat_tests) in
-    ap₂ (λ w c. record { weight = w; colour = c }) w c
+use Rattle.list_laws.proofs.InOrder.{InOrder, ordered-same, times-moved}
 
 same-self : (a : Order) → same_order a a ≡ true
 same-self a = grind (arith, nat_tests)
@@ -35,51 +32,27 @@ neither-before a b h k =
 -- the orders in rank are one list
 rank-unique : (xs ys : List Order) → InRank xs → InRank ys →
     ((o : Order) → times same_order o xs ≡ times same_order o ys) → xs ≡ ys
-rank-unique = ordered-same is_before same_order same-is same-self neither-before
+rank-unique = ordered-same is_before same_order same_order-eq same-self neither-before
 
 -- the rank of a file is in rank, and has its orders
 abbrev bare : List Placed → List Order
 bare placed = map (λ p. p.order) placed
 
-put-among : (y : Order) (new : Placed) (xs : List Placed) → Among y (bare (put_in_rank new xs)) →
-    (y ≡ new.order) ⊎ Among y (bare xs)
-put-among y new [] (inl e) = inl e
-put-among y new [] (inr m) = absurd m
-put-among y new (x ∷ xs) m = elim (either (is_before x.order new.order)) [
-  | inl b ↦ (let k : (y ≡ x.order) ⊎ Among y (bare (put_in_rank new xs)) = rw b at m in
-      elim k [
-        | inl e ↦ inr (inl e)
-        | inr i ↦ elim (put-among y new xs i) [ inl e ↦ inl e | inr j ↦ inr (inr j) ]
-      ])
-  | inr b ↦ (let k : (y ≡ new.order) ⊎ Among y (bare (x ∷ xs)) = rw b at m in k)
-]
-
 later-not : (x y z : Order) → is_before y x ≡ false → is_before z y ≡ false →
     is_before z x ≡ false
 later-not x y z a b = grind (arith, nat_tests)
 
-before-not : (x y : Order) → is_before x y ≡ true → is_before y x ≡ false
-before-not x y h = grind (arith, nat_tests)
-
-put-in-rank : (new : Placed) (xs : List Placed) → InRank (bare xs) →
-    InRank (bare (put_in_rank new xs))
-put-in-rank new [] r = (λ y m. absurd m, tt)
-put-in-rank new (x ∷ xs) r = elim (either (is_before x.order new.order)) [
-  | inl b ↦ rw b (
-    λ y m. elim (put-among y new xs m) [
-      | inl e ↦ rw e (before-not x.order new.order b)
-      | inr i ↦ r.0 y i
-    ],
-    put-in-rank new xs r.1,
-  )
-  | inr b ↦ rw b (
-    λ y m. elim m [
-      | inl e ↦ rw e b
-      | inr i ↦ later-not new.order x.order y b (r.0 y i)
-    ],
-    r,
-  )
-]
+rising-in-rank : (xs : List Placed) → Rising xs → InRank (bare xs)
+rising-in-rank [] r = tt
+rising-in-rank (x ∷ xs) r = (
+  λ y among. (let later = Among-unmap (λ p. p.order) y xs among in
+      subst (λ o. is_before o x.order ≡ false) (sym later.2) (not-before x later.0
+      (each-at (λ z. precedes x z ≡ true) later.0 xs r.0 later.1))),
+  rising-in-rank xs r.1,
+)
+  where
+    not-before : (x z : Placed) → precedes x z ≡ true → is_before z.order x.order ≡ false
+    not-before x z h = grind (arith, nat_tests)
 
 put-times : (o : Order) (new : Placed) (xs : List Placed) →
     times same_order o (bare (put_in_rank new xs))
@@ -93,12 +66,6 @@ put-times o new (x ∷ xs) = elim (either (is_before x.order new.order)) [
   | inr b ↦ rw b
 ]
 
-rank-in-rank : (k : ℕ) (orders : List Order) → InRank (bare (rank_from k orders))
-rank-in-rank k [] = tt
-rank-in-rank k (o ∷ orders) =
-    put-in-rank (record { order = o; place = k }) (rank_from (suc k) orders)
-    (rank-in-rank (suc k) orders)
-
 rank-times : (o : Order) (k : ℕ) (orders : List Order) →
     times same_order o (bare (rank_from k orders)) ≡ times same_order o orders
 rank-times o k [] = refl
@@ -110,7 +77,7 @@ rank-times o k (x ∷ orders) =
 pub in-rank-is : (orders xs : List Order) → IsPermutation orders xs → InRank xs →
     xs ≡ ranked_orders orders
 in-rank-is orders xs p r =
-    rank-unique xs (ranked_orders orders) r (rank-in-rank 0 orders)
+    rank-unique xs (ranked_orders orders) r (rising-in-rank (rank orders) (rank-rising 0 orders))
     (λ o. times-moved same_order o orders xs p ∙ sym (rank-times o 0 orders))
 
 -- what two sorts leave is in rank

@@ -13,10 +13,10 @@ use Rattle.mill_model.specs.declared.closing.Closing.TheVariants.{Split, Leaf, P
 use Rattle.list_laws.proofs.Times.{same_list-refl, same_list-eq, times-append, times-pos}
 use Rattle.list_laws.proofs.Tests.{and-left, and-right, either}
 use Rattle.list_laws.proofs.Among.{Among, all-among, Among-append_right, Among-unappend}
+use Rattle.mill_laws.proofs.Paths.{left-open-goes-on}
 use Rattle.refute_log.specs.Rising.{comes_before, rises}
 use Rattle.refute_log.proofs.Order.{before-trans, before-differs, before-total, before-child}
 use Rattle.log_checker.proofs.PathsPart.{parts-before, parts-longer, AllPart, AllPart-append}
-use Rattle.log_checker.proofs.PathsPart.{child-in}
 use Rattle.log_checker.proofs.PathsPart.{children-part}
 use Rattle.log_checker.specs.Verdict.{holds_up, verdict_from, IsVerdict}
 use Rattle.log_checker.proofs.Counted.{records_at, wants_of, each_holds_up, IsRight, RightBefore}
@@ -64,17 +64,6 @@ recorded-among e [] m = absurd m
 recorded-among e (f ∷ log) (inl k) = inl (ap (λ (x : Entry). x.path) k)
 recorded-among e (f ∷ log) (inr m) = inr (recorded-among e log m)
 
--- the paths that a record leaves open are children of its own
-open-in : (task : Task) (path q : List ℕ) (c : Closing) → Among q (left_open task path c) → (g : ℕ)
-    × (q ≡ path ++ g ∷ [])
-open-in task path q Split m =
-    let r =
-    child-in path (may_go_on task.mill task.ranked path) q (below (suc (next_new path))) m in
-    (r.0, r.2)
-open-in task path q Leaf m = absurd m
-open-in task path q (Priced prices) m = absurd m
-open-in task path q (Dominated other) m = absurd m
-
 open-part : (task : Task) (path : List ℕ) (c : Closing) → AllPart (left_open task path c)
 open-part task path Split =
     children-part path (may_go_on task.mill task.ranked path) (suc (next_new path))
@@ -94,7 +83,7 @@ split-none task p (e ∷ log) h =
     times-append same_list p (left_open task e.path e.closing) (split_children task log) in
     let b : times same_list p (left_open task e.path e.closing) ≡ 0 =
     times-none p (left_open task e.path e.closing) (λ q m. let r =
-    open-in task e.path q e.closing m in
+    left-open-goes-on task e.path q e.closing m in
     rw r.1 (before-differs p (e.path ++ r.0 ∷ []) (ahead r.0 (h e (inl refl))))) in
     let k : times same_list p (split_children task log) ≡ 0 =
     split-none task p log (λ f m. h f (inr m)) in
@@ -264,11 +253,11 @@ step task bound log done path paths e rest up it q h = record {
         | inr k ↦ (elim k [ inl s ↦ rw s h | inr s ↦ absurd s ])
       ];
   part = AllPart-append (left_open task e.path e.closing) paths (open-part task e.path e.closing)
-      it.part.1 (λ a b x y. let r = open-in task e.path a e.closing x in
+      it.part.1 (λ a b x y. let r = left-open-goes-on task e.path a e.closing x in
       rw r.1 (parts-longer e.path b (r.0 ∷ []) (rw (← q) (it.part.0 b y))));
   behind = λ f p m n. elim (Among-unappend p (left_open task e.path e.closing) paths n) [
-    | inl k ↦ (let r = open-in task e.path p e.closing k in let c : comes_before e.path p ≡ true =
-        rw r.1 (before-child e.path r.0) in upto f p c m)
+    | inl k ↦ (let r = left-open-goes-on task e.path p e.closing k in
+        let c : comes_before e.path p ≡ true = rw r.1 (before-child e.path r.0) in upto f p c m)
     | inr k ↦ (let c : comes_before e.path p ≡ true = rw (← q)
         (parts-before path p (it.part.0 p k)) in upto f p c m)
   ];

@@ -22,7 +22,7 @@ use Rattle.list_laws.proofs.Times.{times-pos, times-among}
 use Rattle.set_minima.specs.Packs.{nobody, colour_at}
 use Rattle.set_minima.specs.Joins.{IsSlab}
 use Rattle.set_minima.proofs.Groups.{dead-least}
-use Rattle.least_slacks.specs.Cells.{IsSmall}
+use Rattle.set_minima.specs.Cells.{IsSmall}
 use Rattle.least_slacks.specs.Keys.{AreLeast, HasColours, no_key}
 use Rattle.least_slacks.specs.Limits.{mill_within}
 use Rattle.least_slacks.specs.declared.limits.SlabLimits.{SlabLimits}
@@ -35,7 +35,7 @@ use Rattle.log_checker.specs.declared.keys.LiveGroup.{LiveGroup}
 use Rattle.log_checker.proofs.KeysDecide.{low-from}
 use Rattle.log_checker.proofs.LegalGroups.{live-fits, seen-once}
 use Rattle.log_checker.proofs.LiveGroups.{lives-is}
-use Rattle.log_checker.proofs.Sorted.{times-moved}
+use Rattle.list_laws.proofs.InOrder.{times-moved}
 
 -- the groups of the live ones in order
 among-sorted : (mill : Mill) (rest : List Order) (groups : List Seen) (sorted : List LiveGroup)

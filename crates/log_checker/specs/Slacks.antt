@@ -5,7 +5,7 @@ use Rattle.mill_model.specs.Plan.{slab}
 use Rattle.mill_model.specs.Prices.{least_slack}
 use Rattle.mill_model.specs.Slab.{Mill}
 use Rattle.mill_model.specs.declared.order.Order.{Order}
-use Rattle.least_slacks.specs.Cells.{IsSmall}
+use Rattle.set_minima.specs.Cells.{IsSmall}
 use Rattle.log_checker.specs.declared.keys.LiveGroup.{LiveGroup}
 
 abbrev pub no_live : LiveGroup

@@ -9,7 +9,7 @@ ghost use Rattle.mill_model.specs.Log.{sound};
 ghost use Rattle.mill_model.specs.Tree.{next_new};
 ghost use Rattle.mill_model.specs.declared.closing.Closing.TheVariants.{Priced};
 ghost use Rattle.refute_log.specs.Fits.{path_fits};
-ghost use Rattle.least_slacks.specs.Cells.{IsSmall};
+ghost use Rattle.set_minima.specs.Cells.{IsSmall};
 ghost use Rattle.least_slacks.specs.Keys.{AreLeast, HasRoom};
 ghost use Rattle.least_slacks.specs.Limits.{mill_within};
 ghost use Rattle.log_checker.specs.Groups.{AreGroups, nothing_seen};

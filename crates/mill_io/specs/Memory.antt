@@ -1,9 +1,10 @@
 -- What a source and a sink in memory show.
 use Rattle.std.specs.Prelude.{ℕ, List}
 
--- the bytes to come, the most that one read gives, the numbers of the reads that fail, and how
--- many reads were made and failed
+-- the bytes that were given, those to come, the most that one read gives, the numbers of the reads
+-- that fail, and how many reads were made and failed
 pub record Supply : Type 0 where
+  pub given : List ℕ
   pub left : List ℕ
   pub piece : ℕ
   pub failing : List ℕ
@@ -18,3 +19,8 @@ pub record Store : Type 0 where
   pub failing : List ℕ
   pub writes : ℕ
   pub faults : ℕ
+
+-- the bytes that were given, and those to come
+pub record Feed : Type 0 where
+  pub given : List ℕ
+  pub left : List ℕ

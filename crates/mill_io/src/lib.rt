@@ -2,6 +2,7 @@
 //! over std, and the call that reads a source to its end.
 #![tactic(auto)]
 
+mod history;
 mod memory;
 mod read;
 mod standard;

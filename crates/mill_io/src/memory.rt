@@ -3,7 +3,7 @@ ghost use Rattle.std.specs.Prelude.{Contains, IsTrue, IsOk, IsErr, IfOk, OnOk, O
 ghost use Rattle.std.specs.Prelude.{vec_len, vec_capacity};
 ghost use Rattle.std.specs.Io.{ReadsAtMost};
 ghost use Rattle.std.specs.Io.KnownBytes.{Appends, ReadConsumes};
-ghost use Rattle.mill_io.specs.Bytes.{AppendsFront};
+ghost use Rattle.mill_io.specs.Bytes.{AppendsFront, AppendsToBoth, FindsEnd, Gives};
 ghost use Rattle.mill_io.specs.Causes.{HasCause, count_after, one_more};
 ghost use Rattle.mill_io.specs.Memory.{Supply, Store};
 
@@ -27,6 +27,7 @@ impl Model for MemSource {
     ghost Value = { Supply };
 
     ghost view = { λ s. record {
+      given = take s.at s.bytes.items;
       left = drop s.at s.bytes.items;
       piece = s.piece;
       failing = s.failing.items;
@@ -48,6 +49,7 @@ impl MemSource {
     ) -> Result<MemSource, OutOfMemory>
         requires { 1 ≤ piece }
         ensures { IfOk result (λ source. source ≡ record {
+          given = [];
           left = bytes.now;
           piece = piece;
           failing = failing.now;
@@ -69,11 +71,17 @@ impl MemSource {
 impl Source for MemSource {
     ghost left = { λ s. Some s.left };
 
+    ghost given = { λ s. s.given };
+
+    ghost ended = { λ s. s.left ≡ [] };
+
     ghost faults = { λ s. s.faults };
 
     fn read(&mut self, buf: &mut [u8]) -> Result<usize, Failed>
         ensures bound { ReadsAtMost result buf.new }
         ensures bytes { ReadConsumes (Some self.old.left) (Some self.new.left) result buf.new }
+        ensures gives { Gives self.old.given self.new.given result buf.new }
+        ensures end { FindsEnd result buf.new → self.new.left ≡ [] }
         ensures cause { HasCause self.old.faults self.new.faults result }
 
         // Just the listed reads fail, and the others give all that may be given.
@@ -154,12 +162,16 @@ impl MemSink {
 impl Sink for MemSink {
     ghost written = { λ s. Some s.kept };
 
+    ghost held = { λ s. Some s.kept };
+
     ghost faults = { λ s. s.faults };
 
     fn write_all(&mut self, piece: &[u8]) -> Result<(), Failed>
         ensures ok { OnOk result (Appends (Some self.old.kept) (Some self.new.kept) piece.now) }
         ensures err { OnErr result
             (AppendsFront (Some self.old.kept) (Some self.new.kept) piece.now) }
+        ensures held { AppendsToBoth (Some self.old.kept) (Some self.new.kept)
+            (Some self.old.kept) (Some self.new.kept) }
         ensures cause { HasCause self.old.faults self.new.faults result }
 
         // A listed write keeps nothing, and fails.

@@ -1,6 +1,7 @@
-ghost use Rattle.std.specs.Prelude.{◌≡◌, ◌≢◌, ◌+◌, ◌≤◌, vec_len, IfOk, OnOk, IsErrOf};
+ghost use Rattle.std.specs.Prelude.{◌≡◌, ◌≢◌, ◌+◌, ◌≤◌, ◌++◌, vec_len, IfOk, OnOk, IsErrOf};
 ghost use Rattle.std.specs.Io.KnownBytes.{Consumes, IsAtEnd};
-ghost use Rattle.mill_io.specs.Bytes.{HasMoreThan, Loses, LosesAtMost};
+ghost use Rattle.mill_io.specs.Bytes.{GivesAtMost, GivesCount, GivesLost, HasMoreThan};
+ghost use Rattle.mill_io.specs.Bytes.{Loses, LosesAtMost};
 ghost use Rattle.mill_io.specs.Causes.{Rose};
 
 use crate::Source;
@@ -31,6 +32,18 @@ pub fn read_all<S: Source>(
         Consumes (S.left source.old) (S.left source.new) bytes.items) }
     ensures end { OnOk result (IsAtEnd (S.left source.new)) }
     ensures within { IfOk result (λ bytes. vec_len bytes ≤ limit) }
+
+    // What is read is what the reads gave, and the source is at its end. Whatever the answer is,
+    // they gave all that was lost.
+    ensures given { IfOk result (λ bytes.
+        S.given source.new ≡ S.given source.old ++ bytes.items) }
+    ensures ended { OnOk result (S.ended source.new) }
+    ensures lost { GivesLost (S.left source.old) (S.left source.new)
+        (S.given source.old) (S.given source.new) }
+    ensures given_past { IsErrOf result ReadError.TooLong →
+        GivesCount (limit + 1) (S.given source.old) (S.given source.new) }
+    ensures given_within { result ≢ Err ReadError.TooLong →
+        GivesAtMost limit (S.given source.old) (S.given source.new) }
 
     // `ReadFault` is the answer to a fault, and to nothing else.
     ensures later { S.faults source.old ≤ S.faults source.new }

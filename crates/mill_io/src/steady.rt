@@ -1,8 +1,10 @@
-ghost use Rattle.std.specs.Prelude.{◌≡◌, ℕ, ◌+◌, ◌-◌, ◌^◌, ◌≤◌, List, drop, length, min};
+ghost use Rattle.std.specs.Prelude.{◌≡◌, ℕ, ◌+◌, ◌-◌, ◌^◌, ◌≤◌, List, [], drop, length, min, take};
 ghost use Rattle.std.specs.Prelude.{IfOk, Ok, Some, None};
 ghost use Rattle.std.specs.Io.{ReadsAtMost};
 ghost use Rattle.std.specs.Io.KnownBytes.{ReadConsumes};
+ghost use Rattle.mill_io.specs.Bytes.{FindsEnd, Gives};
 ghost use Rattle.mill_io.specs.Causes.{HasCause};
+ghost use Rattle.mill_io.specs.Memory.{Feed};
 
 use crate::memory::give;
 use crate::{Failed, Sink, Source};
@@ -18,9 +20,12 @@ pub struct SteadySource {
 }
 
 impl Model for SteadySource {
-    ghost Value = { List ℕ };
+    ghost Value = { Feed };
 
-    ghost view = { λ s. drop s.at s.bytes.items };
+    ghost view = { λ s. record {
+      given = take s.at s.bytes.items;
+      left = drop s.at s.bytes.items;
+    } };
 
     ghost invariant = { λ s. s.at ≤ length s.bytes.items };
 }
@@ -28,7 +33,7 @@ impl Model for SteadySource {
 impl SteadySource {
     /// A source of these bytes.
     pub fn new(alloc: Global, bytes: &[u8]) -> Result<SteadySource, OutOfMemory>
-        ensures { IfOk result (λ source. source ≡ bytes.now) }
+        ensures { IfOk result (λ source. source ≡ record { given = []; left = bytes.now }) }
     {
         Ok(SteadySource {
             bytes: bytes.to_vec(alloc)?,
@@ -38,15 +43,21 @@ impl SteadySource {
 }
 
 impl Source for SteadySource {
-    ghost left = { λ s. Some s };
+    ghost left = { λ s. Some s.left };
+
+    ghost given = { λ s. s.given };
+
+    ghost ended = { λ s. s.left ≡ [] };
 
     ghost faults = { λ _. 0 };
 
     fn read(&mut self, buf: &mut [u8]) -> Result<usize, Failed>
         ensures bound { ReadsAtMost result buf.new }
-        ensures bytes { ReadConsumes (Some self.old) (Some self.new) result buf.new }
+        ensures bytes { ReadConsumes (Some self.old.left) (Some self.new.left) result buf.new }
+        ensures gives { Gives self.old.given self.new.given result buf.new }
+        ensures end { FindsEnd result buf.new → self.new.left ≡ [] }
         ensures cause { HasCause 0 0 result }
-        ensures given { result ≡ Ok (min (length self.old) (length buf.old)) }
+        ensures given { result ≡ Ok (min (length self.old.left) (length buf.old)) }
     {
         let count = give(&self.bytes, self.at, buf.len(), buf);
         self.at += count;
@@ -84,6 +95,8 @@ impl SteadySink {
 
 impl Sink for SteadySink {
     ghost written = { λ _. None };
+
+    ghost held = { λ _. None };
 
     ghost faults = { λ _. 0 };
 

@@ -1,28 +1,33 @@
+-- plans and trees
 pub mod Groups
 pub mod Canonical
-pub mod Forms
+pub mod GrowingNumbers
 pub mod Legal
 pub mod Ranked
 pub mod Ranking
 pub mod PlanLaws
-pub mod Duality
 pub mod Settle
 pub mod Paths
 pub mod Twin
-pub mod Enough
+pub mod TreeSize
 pub mod TreeLaws
+-- prices
+pub mod Duality
 pub mod Least
 pub mod Slacks
 pub mod Ascent
 pub mod Sweep
 pub mod PriceLaws
 pub mod PricesWithin
+-- logs
 pub mod Mated
 pub mod Carry
 pub mod Law
-pub mod Once
-pub mod Merged
 pub mod LogLaws
+-- runs
+pub mod RecordedOnce
+pub mod Merged
 pub mod Thrift
 pub mod RunLaws
-pub mod Second
+-- starts
+pub mod StartBound

@@ -15,7 +15,7 @@ use Rattle.mill_laws.proofs.Carry.{settled, settled-word, settled-loss}
 use Rattle.mill_laws.proofs.Ranked.{ranked-loss, ranked-legal, ranked-each}
 use Rattle.mill_laws.proofs.Merged.{sound-less}
 use Rattle.list_laws.proofs.Among.{each-weaker}
-use Rattle.mill_laws.proofs.Once.{once-recorded}
+use Rattle.mill_laws.proofs.RecordedOnce.{once-recorded}
 
 -- a word is carried to a path that dominates
 pub carry : (task : Task) → task.charge 0 ≡ 0 → (path other more : List ℕ) →
@@ -47,7 +47,8 @@ refuted-loss-bounds mill charge orders bound log z r plan l =
     } in
     omega (
       arith,
-      ranked-law (task_of_orders mill charge orders) bound log z r (plan_in_rank orders plan) in-rank,
+      ranked-law (task_of_orders mill charge orders) bound log z r (plan_in_rank orders plan)
+          in-rank,
       ranked-loss orders plan l.each charge,
     )
 

@@ -1,16 +1,19 @@
 -- What the paths of the tree keep, and the words that lead from a path to a leaf.
 use Rattle.std.proofs.Common.{ℕ, suc, ◌+◌, ◌≤◌, ◌≡◌, max, eqb, leb, true, false, ◌&&◌, List, []}
 use Rattle.std.proofs.Common.{◌∷◌, ◌++◌, filter, length, refl, arith, inl, inr, eqb-true, leb-true}
-use Rattle.std.proofs.Common.{append_assoc, append-nil, length-append, le-leb, ltb, ltb-true, ◌<◌, Bool}
+use Rattle.std.proofs.Common.{append_assoc, append-nil, length-append, le-leb, ltb, ltb-true, ◌<◌}
+use Rattle.std.proofs.Common.{Bool}
 use Rattle.list_laws.specs.Sets.{holds, below}
 use Rattle.mill_model.specs.Slab.{Mill, legal}
 use Rattle.mill_model.specs.Plan.{slab}
 use Rattle.mill_model.specs.Tree.{later_orders, next_new, may_go_on, children, goes_on, in_tree}
-use Rattle.mill_model.specs.Log.{Task}
+use Rattle.mill_model.specs.Log.{Task, left_open}
+use Rattle.mill_model.specs.declared.closing.Closing.{Closing}
+use Rattle.mill_model.specs.declared.closing.Closing.TheVariants.{Split, Leaf, Priced, Dominated}
 use Rattle.mill_model.specs.declared.order.Order.{Order}
 use Rattle.list_laws.proofs.Tests.{and-left, and-right, either}
 use Rattle.mill_laws.proofs.Groups.{next_new-append}
-use Rattle.list_laws.proofs.Among.{Among, Among-map, Among-filter, among-below}
+use Rattle.list_laws.proofs.Among.{Among, Among-map, Among-unmap, Among-filter, among-below}
 use Rattle.mill_model.proofs.Slabs.{slab-append, slab-unused, legal-none}
 use Rattle.mill_laws.proofs.Canonical.{grows}
 use Rattle.list_laws.proofs.Lists.{length-push}
@@ -169,3 +172,14 @@ first-child task path g more w =
     Among-map (λ g. path ++ g ∷ []) g (filter (may_go_on task.mill task.ranked path)
     (below (suc (next_new path)))) (Among-filter (may_go_on task.mill task.ranked path) g
     (below (suc (next_new path))) may (among-below g (suc (next_new path)) (omega (arith, next))))
+
+-- the paths that a record leaves open go on from its own by one number
+pub left-open-goes-on : (task : Task) (path child : List ℕ) (closing : Closing) →
+    Among child (left_open task path closing) → (g : ℕ) × (child ≡ path ++ g ∷ [])
+left-open-goes-on task path child Split among =
+    let r = Among-unmap (λ g. path ++ g ∷ []) child
+    (filter (may_go_on task.mill task.ranked path) (below (suc (next_new path)))) among in
+    (r.0, r.2)
+left-open-goes-on task path child Leaf among = absurd among
+left-open-goes-on task path child (Priced prices) among = absurd among
+left-open-goes-on task path child (Dominated other) among = absurd among

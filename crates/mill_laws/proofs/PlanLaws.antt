@@ -1,6 +1,6 @@
 -- The laws of plans.
-use Rattle.std.proofs.Common.{ℕ, zero, suc, ◌≤◌, ◌≡◌, ◌⊎◌, true, false, List, [], ◌∷◌, length, eqb}
-use Rattle.std.proofs.Common.{refl, ap, ◌∙◌, arith, inl, inr, length-append}
+use Rattle.std.proofs.Common.{ℕ, ◌≤◌, ◌≡◌, ◌⊎◌, true, false, List, [], ◌∷◌, length, eqb}
+use Rattle.std.proofs.Common.{refl, ap, ◌∙◌, arith, inl, inr}
 use Rattle.std.proofs.lemmas.Bool.Decides.{nat_tests}
 use Rattle.std.proofs.lemmas.List.{length-map}
 use Rattle.std.proofs.lemmas.List.Elements.{recursion_from_All}
@@ -18,9 +18,10 @@ use Rattle.mill_laws.proofs.Canonical.{canonical-grows, canonical-fits, canonica
 use Rattle.mill_laws.proofs.Canonical.{canonical-numbers}
 use Rattle.mill_laws.proofs.Groups.{next_new-le}
 use Rattle.mill_model.proofs.Slabs.{slab-unused, legal-none}
-use Rattle.mill_laws.proofs.Forms.{canonical-same}
+use Rattle.mill_laws.proofs.GrowingNumbers.{canonical-same}
 use Rattle.mill_laws.proofs.Legal.{plan-long, plan-range, plan-fits, legal-from}
 use Rattle.list_laws.proofs.Different.{holds-below-lt}
+use Rattle.list_laws.proofs.Lists.{length-below}
 use Rattle.list_laws.proofs.Times.{times-below}
 use Rattle.mill_laws.proofs.Ranked.{ranked-each, ranked-legal, unranked-legal, ranked-loss}
 
@@ -83,14 +84,10 @@ pub alone-is-legal : (mill : Mill) (o : Order) → 1 ≤ mill.most_colours →
     o.weight ≤ mill.largest → legal mill (o ∷ []) ≡ true
 alone-is-legal mill o c w = grind (arith, nat_tests)
 
-pub below-length : (n : ℕ) → length (below n) ≡ n
-below-length zero = refl
-below-length (suc n) = omega (arith, below-length n, length-append (below n) (n ∷ []))
-
 pub each-alone-is-legal : EachAloneIsLegal
 each-alone-is-legal mill orders f =
     let n = length orders in
-    legal-from mill orders (below n) (below-length n)
+    legal-from mill orders (below n) (length-below n)
     (next_new-le n (below n) (λ s h. holds-below-lt s n h))
     (λ s. fits s (slab-one s (below n) orders (times-below s n)))
   where

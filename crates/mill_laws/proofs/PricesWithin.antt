@@ -1,10 +1,10 @@
 -- The prices of the ascent and of its sweeps stay within the limits of a price.
 --
--- From above: an order that fits a slab alone is a set of its own, whose slack bounds its new price
--- by 60 charges. From below: an ascent's prices aren't negative. A swept price is the slack of a new
--- slab with the order, which valid prices keep at its old price or above, or what a group loses more
--- with the order than without it, at its least: taking the order out of the best set with it leaves
--- a legal set, so that is at most 60 charges below zero.
+-- From above: an order that fits a slab alone is a set of its own, whose slack bounds its new
+-- price by 60 charges. From below: an ascent's prices aren't negative. A swept price is the slack
+-- of a new slab with the order, which valid prices keep at its old price or above, or what a group
+-- loses more with the order than without it, at its least: taking the order out of the best set
+-- with it leaves a legal set, so that is at most 60 charges below zero.
 use Rattle.std.proofs.Common.{ℕ, zero, suc, ◌*◌, ◌<◌, ◌≤◌, ◌≡◌, Bool, true, false}
 use Rattle.std.proofs.Common.{not, List, [], ◌∷◌, ◌++◌, map, length, get_or, set, ℤ}
 use Rattle.std.proofs.Common.{pos, ◌-ℤ◌, ◌≤ℤ◌, int_le, eqb, refl, subst, ◌∙◌, arith}
@@ -16,7 +16,8 @@ use Rattle.std.specs.List.{list_any}
 use Rattle.list_laws.specs.Sets.{chosen, sets, below, int_sum}
 use Rattle.list_laws.proofs.Tests.{or-cases, or-left, or-right}
 use Rattle.list_laws.proofs.Among.{Among, Among-append_left, Among-filter, Among-unfilter}
-use Rattle.list_laws.proofs.Among.{Among-unappend, Among-unmap, all-among, any-from, among-sets, sets-length}
+use Rattle.list_laws.proofs.Among.{Among-unappend, Among-unmap, all-among, any-from, among-sets}
+use Rattle.list_laws.proofs.Among.{sets-length}
 use Rattle.list_laws.proofs.Different.{Within, different-mono, holds-append}
 use Rattle.mill_model.specs.Slab.{Mill, load, colours, legal}
 use Rattle.mill_model.specs.Plan.{slab}
@@ -231,7 +232,7 @@ module _ (mill : Mill) (charge : ℕ → ℕ) (ranked : List Order) (path : List
   module _ (ys : List ℤ) (slabs : (s : ℕ) → legal mill (slab s path ranked) ≡ true)
       (long : length ys ≡ length rest) (valid_before : valid mill charge rest ys ≡ true)
       (within : All IsPrice ys) where
-    sweep-within : (i : ℕ) → i ≤ length rest → All IsPrice (sweep mill charge ranked path ys i)
+    pub sweep-within : (i : ℕ) → i ≤ length rest → All IsPrice (sweep mill charge ranked path ys i)
     sweep-within zero l = within
     sweep-within (suc i) l =
         let before = sweep mill charge ranked path ys i in
@@ -244,7 +245,7 @@ module _ (mill : Mill) (charge : ℕ → ℕ) (ranked : List Order) (path : List
 
   -- The ascent.
   module _ (slabs : (s : ℕ) → legal mill (slab s path ranked) ≡ true) where
-    ascent-within : (i : ℕ) → i ≤ length rest → All IsPrice (ascent mill charge ranked path i)
+    pub ascent-within : (i : ℕ) → i ≤ length rest → All IsPrice (ascent mill charge ranked path i)
     ascent-within zero l = zeros-within (length rest)
       where
         zeros-within : (n : ℕ) → All IsPrice (replicate n (pos 0))

@@ -31,6 +31,9 @@ rank-length k (o ∷ orders) =
     put-length (record { order = o; place = k }) (rank_from (suc k) orders)
     ∙ ap suc (rank-length (suc k) orders)
 
+pub ranked-count : (orders : List Order) → length (ranked_orders orders) ≡ length orders
+ranked-count orders = length-map (rank orders) _ ∙ rank-length 0 orders
+
 -- the orders of slab s among placed ones
 abbrev pub placed_slab : ℕ → List ℕ → List Placed → List Order
 placed_slab s plan placed =
@@ -149,18 +152,15 @@ module _ (orders : List Order) (plan : List ℕ) (each : numbers_each plan order
   same-legal mill s =
       ap₂ (λ a b. leb a mill.largest && leb b mill.most_colours) (same-load s) (same-colours s)
 
-  pub same-length : length (ranked_orders orders) ≡ length orders
-  same-length = length-map (rank orders) _ ∙ rank-length 0 orders
-
   pub ranked-loss : (charge : ℕ → ℕ) →
       loss charge (plan_in_rank orders plan) (ranked_orders orders) ≡ loss charge plan orders
   ranked-loss charge =
-      rw same-length (total-cong (length orders) _ _ (λ s l. ap charge (same-load s)))
+      rw (ranked-count orders) (total-cong (length orders) _ _ (λ s l. ap charge (same-load s)))
 
   pub ranked-legal : (mill : Mill) → legal_plan mill plan orders ≡ true →
       legal_plan mill (plan_in_rank orders plan) (ranked_orders orders) ≡ true
   ranked-legal mill h =
-      rw same-length (each_below-from (length orders) _ (λ s l. same-legal mill s
+      rw (ranked-count orders) (each_below-from (length orders) _ (λ s l. same-legal mill s
       ∙ each_below-at (length orders) (λ s. legal mill (slab s plan orders)) s h l))
 
   pub unranked-legal : (mill : Mill) →
@@ -169,14 +169,14 @@ module _ (orders : List Order) (plan : List ℕ) (each : numbers_each plan order
   unranked-legal mill h =
       each_below-from (length orders) _ (λ s l. sym (same-legal mill s)
       ∙ each_below-at (length orders) (λ s.
-      legal mill (slab s (plan_in_rank orders plan) (ranked_orders orders))) s (rw same-length at h)
-      l)
+      legal mill (slab s (plan_in_rank orders plan) (ranked_orders orders))) s
+      (rw (ranked-count orders) at h) l)
 
   pub ranked-each : numbers_each (plan_in_rank orders plan) (ranked_orders orders) ≡ true
   ranked-each =
       let one-each : length (plan_in_rank orders plan) ≡ length (ranked_orders orders) =
       length-map (rank orders) _ ∙ sym (length-map (rank orders) _) in
-      rw (eq-eqb _ _ one-each, same-length) (in-range orders refl)
+      rw (eq-eqb _ _ one-each, ranked-count orders) (in-range orders refl)
     where
       in-range : (os : List Order) → os ≡ orders →
           list_all (λ s. ltb s (length orders)) (plan_in_rank orders plan) ≡ true

@@ -1,68 +1,29 @@
 -- The rank is the one order of the file's orders, each with its place, in which each stands before
 -- the next: weight falling, then colour rising, then place rising.
-use Rattle.std.proofs.Common.{ℕ, suc, ◌<◌, ◌≡◌, ◌⊎◌, true, List, [], ◌∷◌}
-use Rattle.std.proofs.Common.{refl, sym, ap₂, ◌∙◌, arith, inl, inr, subst}
+use Rattle.std.proofs.Common.{ℕ, suc, ◌+◌, ◌<◌, ◌≡◌, true, false, cond, eqb-true, List, [], ◌∷◌}
+use Rattle.std.proofs.Common.{refl, sym, ap, ◌∙◌, arith, inl, inr}
 use Rattle.std.proofs.lemmas.Bool.Decides.{nat_tests}
+use Rattle.std.specs.Cmp.{IsStrictWeakOrder}
 use Rattle.std.specs.List.{AllByRecursion}
+use Rattle.list_laws.specs.Sets.{times, SameTimes}
 use Rattle.mill_model.specs.Rank.{Placed, is_before, put_in_rank, rank_from, rank, precedes}
 use Rattle.mill_model.specs.Rank.{placed_from, same_order, same_placed}
-use Rattle.mill_laws.specs.RankLaws.{Rising, RankRises, RankHasTheOrders, RankIsTheOnlyOne}
-use Rattle.mill_laws.proofs.Settle.{same_order-eq}
-use Rattle.list_laws.specs.Sets.{times, SameTimes}
-use Rattle.list_laws.proofs.Times.{times-pos, times-among}
 use Rattle.mill_model.specs.declared.order.Order.{Order}
-use Rattle.list_laws.proofs.Among.{Among, each-at, each-weaker}
-use Rattle.list_laws.proofs.Tests.{either}
-use Rattle.list_laws.proofs.Tests.{and-left}
-use Rattle.std.proofs.Common.{ap}
-use Rattle.std.proofs.Common.{cond, eqb-true}
-use Rattle.list_laws.proofs.Tests.{and-right}
-use Rattle.std.proofs.Common.{◌+◌}
+use Rattle.mill_laws.specs.RankLaws.{Rising, RankRises, RankHasTheOrders, RankIsTheOnlyOne}
+use Rattle.list_laws.proofs.Among.{each-at, each-weaker}
+use Rattle.list_laws.proofs.InOrder.{InOrder, ordered-same}
+use Rattle.list_laws.proofs.Tests.{either, and-left, and-right}
+use Rattle.mill_laws.proofs.Settle.{same_order-eq}
 
 pub precedes-trans : (x y z : Placed) → precedes x y ≡ true → precedes y z ≡ true →
     precedes x z ≡ true
 precedes-trans x y z h k = grind (arith, nat_tests)
 
-pub precedes-not : (x y : Placed) → precedes x y ≡ true → precedes y x ≡ true → ⊥
-precedes-not x y h k = grind (arith, nat_tests)
+pub precedes-one-way : (x y : Placed) → precedes x y ≡ true → precedes y x ≡ false
+precedes-one-way x y h = grind (arith, nat_tests)
 
 pub precedes-self : (x : Placed) → precedes x x ≡ true → ⊥
 precedes-self x h = grind (arith, nat_tests)
-
--- Two rising lists of the same things are one: their first things are the same, since each of the
--- two stands among the other list.
-pub rising-unique : (xs ys : List Placed) → Rising xs → Rising ys →
-    ((x : Placed) → Among x xs → Among x ys) → ((x : Placed) → Among x ys → Among x xs) → xs ≡ ys
-rising-unique [] [] r s f g = refl
-rising-unique [] (y ∷ ys) r s f g = absurd (g y (inl refl))
-rising-unique (x ∷ xs) [] r s f g = absurd (f x (inl refl))
-rising-unique (x ∷ xs) (y ∷ ys) r s f g =
-    ap₂ (λ a b. a ∷ b) head (rising-unique xs ys r.1 s.1 (λ z i. tail z i (f z (inr i)))
-    (λ z i. back z i (g z (inr i))))
-  where
-    after-x : (z : Placed) → Among z xs → precedes x z ≡ true
-    after-x z i = each-at (λ w. precedes x w ≡ true) z xs r.0 i
-
-    after-y : (z : Placed) → Among z ys → precedes y z ≡ true
-    after-y z i = each-at (λ w. precedes y w ≡ true) z ys s.0 i
-
-    head : x ≡ y
-    head = cases (f x (inl refl)) (g y (inl refl))
-      where
-        cases : (x ≡ y) ⊎ Among x ys → (y ≡ x) ⊎ Among y xs → x ≡ y
-        cases (inl e) k = e
-        cases (inr i) (inl e) = sym e
-        cases (inr i) (inr j) = absurd (precedes-not x y (after-x y j) (after-y x i))
-
-    tail : (z : Placed) → Among z xs → (z ≡ y) ⊎ Among z ys → Among z ys
-    tail z i (inl e) =
-        absurd (precedes-self x (subst (λ w. precedes x w ≡ true) (e ∙ sym head) (after-x z i)))
-    tail z i (inr j) = j
-
-    back : (z : Placed) → Among z ys → (z ≡ x) ⊎ Among z xs → Among z xs
-    back z i (inl e) =
-        absurd (precedes-self y (subst (λ w. precedes y w ≡ true) (e ∙ head) (after-y z i)))
-    back z i (inr j) = j
 
 -- The rank rises: each order is put in ahead of those with a later place that it doesn't follow.
 
@@ -138,12 +99,34 @@ rank-times k (order ∷ orders) x =
     ∙ ap (λ n. cond (same_placed x (record { order = order; place = k })) 1 0 + n)
     (rank-times (suc k) orders x)
 
--- what stands in one list stands in another that has each thing as often
-pub among-same : (xs ys : List Placed) → SameTimes same_placed xs ys → (x : Placed) → Among x xs →
-    Among x ys
-among-same xs ys same x a =
-    times-among same_placed same_placed-eq x ys (rw (← same x)
-    (times-pos same_placed same_placed-refl x xs a))
+-- Placed orders that stand in this order are one list with all others that do and have the same
+-- things, each as often.
+
+precedes-chain : (x y z : Placed) → precedes x y ≡ false → precedes y z ≡ false →
+    precedes x z ≡ false
+precedes-chain x y z h k = grind (arith, nat_tests)
+
+pub precedes-is-an-order : IsStrictWeakOrder precedes
+precedes-is-an-order = record { one_way = precedes-one-way; chain = precedes-chain }
+
+-- two of which neither precedes the other are one
+pub neither-precedes : (x y : Placed) → precedes x y ≡ false → precedes y x ≡ false → x ≡ y
+neither-precedes x y h k =
+    let weight : x.order.weight ≡ y.order.weight = grind (arith, nat_tests) in
+    let colour : x.order.colour ≡ y.order.colour = grind (arith, nat_tests) in
+    let place : x.place ≡ y.place = grind (arith, nat_tests) in
+    λ i. record { order = record { weight = weight i; colour = colour i }; place = place i }
+
+pub one-in-order : (xs ys : List Placed) → InOrder precedes xs → InOrder precedes ys →
+    SameTimes same_placed xs ys → xs ≡ ys
+one-in-order = ordered-same precedes same_placed same_placed-eq same_placed-refl neither-precedes
+
+pub rising-in-order : (xs : List Placed) → Rising xs → InOrder precedes xs
+rising-in-order [] r = tt
+rising-in-order (x ∷ xs) r = (
+  λ y among. precedes-one-way x y (each-at (λ y. precedes x y ≡ true) y xs r.0 among),
+  rising-in-order xs r.1,
+)
 
 -- The laws.
 
@@ -155,7 +138,6 @@ rank-has-the-orders orders = rank-times 0 orders
 
 pub rank-is-the-only-one : RankIsTheOnlyOne
 rank-is-the-only-one orders placed rises same =
-    let both : SameTimes same_placed placed (rank orders) =
-    λ x. same x ∙ sym (rank-times 0 orders x) in
-    rising-unique placed (rank orders) rises (rank-rising 0 orders)
-    (among-same placed (rank orders) both) (among-same (rank orders) placed (λ x. sym (both x)))
+    one-in-order placed (rank orders) (rising-in-order placed rises)
+    (rising-in-order (rank orders) (rank-rising 0 orders)) (λ x.
+    same x ∙ sym (rank-times 0 orders x))

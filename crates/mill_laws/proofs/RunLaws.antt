@@ -9,7 +9,7 @@ use Rattle.mill_laws.specs.RunLaws.{ThriftyRunFitsTheThriftyTree}
 use Rattle.list_laws.proofs.Tests.{and-left, and-right}
 use Rattle.mill_laws.proofs.Law.{Has, has-all}
 use Rattle.mill_laws.proofs.Merged.{each-joined, conserved-refutes}
-use Rattle.mill_laws.proofs.Once.{conserved-once}
+use Rattle.mill_laws.proofs.RecordedOnce.{conserved-once}
 use Rattle.mill_laws.proofs.Thrift.{run-size}
 
 pub pieces-refute : PiecesRefute

@@ -228,7 +228,8 @@ module _ (mill : Mill) (ranked : List Order) where
       let to-come : ltb (length path) (length ranked) ≡ true =
       lt-ltb (length path) (length ranked)
       (omega (arith, length-drop (length path) ranked, ap length e)) in
-      rw (to-come, old-or-next, fits-here, start) (goes-from (path ++ g ∷ []) rest more rest-is (omega arith)
+      rw (to-come, old-or-next, fits-here, start)
+      (goes-from (path ++ g ∷ []) rest more rest-is (omega arith)
       (next-start path g o rest more e (omega arith) rise)
       (rw next (and-right (leb g (next_new path)) _ grow)) (rises-tail o rest g more rise)
       (λ s. rw (← assoc) (fits s)))

@@ -20,7 +20,7 @@ use Rattle.list_laws.proofs.Tests.{either}
 use Rattle.list_laws.proofs.Among.{Among, Among-append_left, Among-unmap, Among-unappend}
 use Rattle.list_laws.proofs.Times.{times-pos, times-among, same_list-refl, same_list-eq}
 use Rattle.mill_laws.proofs.Law.{Has, recorded-has}
-use Rattle.mill_laws.proofs.Once.{ends, conserved-once}
+use Rattle.mill_laws.proofs.RecordedOnce.{ends, conserved-once}
 use Rattle.list_laws.proofs.Lists.{is_prefix, prefix-append, prefix-rest}
 use Rattle.list_laws.proofs.Times.{push-inj}
 

@@ -6,8 +6,8 @@ use Rattle.mill_model.specs.Log.{Task}
 use Rattle.mill_model.specs.Log.{task_of_orders}
 use Rattle.mill_laws.specs.TreeLaws.{IsLeaf, EachPlanHasALeaf, EachLeafIsAPlan, EachPathIsCanonical}
 use Rattle.mill_laws.specs.TreeLaws.{TreeHasAtMost}
-use Rattle.mill_laws.proofs.Enough.{size-enough}
-use Rattle.mill_laws.proofs.Forms.{canonical-same}
+use Rattle.mill_laws.proofs.TreeSize.{size-enough}
+use Rattle.mill_laws.proofs.GrowingNumbers.{canonical-same}
 use Rattle.mill_laws.proofs.Legal.{legal-from}
 use Rattle.mill_laws.proofs.Paths.{Word, goes-grows, tree-fits, tree-bound}
 use Rattle.mill_laws.proofs.Ranked.{ranked-each, ranked-legal, ranked-loss}

@@ -100,8 +100,8 @@ pub fn conserved_pieces()
         (take 3 (seven_lines (pos 180)) ∷ drop 3 (seven_lines (pos 180)) ∷ []) [] ≡ true }
 {}
 
-/// Thrift for a loss of 4: the ascent at the path `1 2` is worth 180, which is not too much, but one
-/// sweep of its price makes it worth 240.
+/// Thrift for a loss of 4: the ascent at the path `1 2` is worth 180, which is not too much, but
+/// one sweep of its price makes it worth 240.
 pub fn thrift()
     ensures ascent { ascent_worth three_mill four three_ranked (0 ∷ 1 ∷ []) ≡ pos 180 }
     ensures sweep { swept_worth three_mill four three_ranked (0 ∷ 1 ∷ []) ≡ pos 240 }
@@ -111,8 +111,8 @@ pub fn thrift()
     ensures not_at_the_root { is_open three_task 1 [] ≡ false }
 {}
 
-/// Equal orders stand by their places: of (1, 5), (2, 1), (1, 5), (2, 1) and (1, 2) the heavier come
-/// first, then the lower colour.
+/// Equal orders stand by their places: of (1, 5), (2, 1), (1, 5), (2, 1) and (1, 2) the heavier
+/// come first, then the lower colour.
 pub fn rank_with_ties()
     ensures places { map (λ placed. placed.place) (rank tied_orders)
         ≡ 1 ∷ 3 ∷ 4 ∷ 0 ∷ 2 ∷ [] }

@@ -1,5 +1,6 @@
 pub mod FirstPlaces
 pub mod Slabs
+pub mod RisingLists
 pub mod Sizes
 pub mod Records
 mod Numbering

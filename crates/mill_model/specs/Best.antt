@@ -1,11 +1,13 @@
--- The best plans of some orders, for any charge of loads, and those that a search has found when its
--- budget is spent.
-use Rattle.std.specs.Prelude.{ℕ, ◌≡◌, ◌<◌, ◌≤◌, List, length, sum_by}
+-- The best plans of some orders, for any charge of loads, and those that a search has found when
+-- its budget is spent.
+use Rattle.std.specs.Prelude.{ℕ, ◌≡◌, ◌<◌, ◌≤◌, List, length}
 use Rattle.mill_model.specs.Slab.{Mill}
 use Rattle.mill_model.specs.Instance.{Problem, mill_of}
 use Rattle.mill_model.specs.Plan.{IsPlanWithLoss, NoneLosesLess}
+use Rattle.mill_model.specs.Pairs.{IsStartBound}
 use Rattle.mill_model.specs.Size.{enough}
 use Rattle.mill_model.specs.Tree.{canonical}
+use Rattle.mill_model.specs.declared.limits.Limits.{Limits}
 use Rattle.mill_model.specs.declared.order.Order.{Order}
 use Rattle.mill_model.specs.declared.plan.Start.{Start}
 
@@ -29,14 +31,13 @@ module _ (mill : Mill) (charge : ℕ → ℕ) (orders : List Order) where
     pub found : IsTidyPlan start
     pub least : NoneLosesLess mill charge orders start.loss
 
-  -- what is lost where each order has a slab of its own
-  abbrev pub loss_alone : ℕ
-  loss_alone = sum_by (λ order. charge order.weight) orders
-
-  -- Such a plan, where a search spent its budget of so many nodes: it loses no more than each order
-  -- alone, and the budget isn't enough for the tree of so many orders.
-  pub record IsFeasible (nodes : ℕ) (start : Start) (spent : ℕ) : Type 0 where
+  -- Such a plan, where a search spent its budget of nodes: it loses no more than the greatest loss
+  -- of a possible start for so many moves, and the budget isn't enough for the tree of so many
+  -- orders.
+  pub record IsFeasible (limits : Limits) (start : Start) (spent : ℕ) : Type 0 where
     pub found : IsTidyPlan start
-    pub no_worse : start.loss ≤ loss_alone
-    pub whole_budget : spent ≡ nodes
-    pub small_budget : nodes < enough (length orders)
+    pub start_bound : ℕ
+    pub is_bound : IsStartBound mill charge orders limits.moves start_bound
+    pub no_worse : start.loss ≤ start_bound
+    pub whole_budget : spent ≡ limits.nodes
+    pub small_budget : limits.nodes < enough (length orders)

@@ -19,7 +19,7 @@ mod threads;
 pub use charges::{Charges, MAX_CHARGE};
 pub use closing::{Closing, Entry};
 pub use instance::Instance;
-pub use limits::{Draw, Limits, Standing};
+pub use limits::{Draw, Limits, MAX_NODES, Standing};
 pub use memory::OutOfMemory;
 pub use order::{MAX_ORDERS, MAX_SIZES, Order};
 pub use path::Path;

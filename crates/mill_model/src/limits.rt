@@ -1,3 +1,7 @@
+/// The largest budget of nodes: as many paths a search closes at most, and as many records a log
+/// has.
+pub const MAX_NODES: u64 = 1_000_000_000;
+
 /// How far a search goes.
 #[derive(Clone, Copy, Debug, PartialEq, Eq)]
 pub struct Limits {

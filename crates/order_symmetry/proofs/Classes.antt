@@ -12,14 +12,14 @@ use Rattle.mill_model.specs.Rank.{Placed, is_before, same_order, rank, ranked_or
 use Rattle.mill_model.specs.Rank.{same_placed}
 use Rattle.mill_model.specs.declared.order.Order.{Order}
 use Rattle.list_laws.proofs.Tests.{and-left, and-right, either}
-use Rattle.mill_laws.proofs.Ranking.{rank-rising}
+use Rattle.list_laws.proofs.InOrder.{sorted-in-order, times-moved}
+use Rattle.mill_laws.proofs.Ranking.{rank-rising, one-in-order, precedes-is-an-order}
 use Rattle.mill_laws.specs.RankLaws.{Rising}
 use Rattle.mill_laws.proofs.Settle.{put, settle, rises, settle-rises, settle-length, same_order-eq}
 use Rattle.order_symmetry.specs.Numbered.{placed_of, stands_before}
 use Rattle.order_symmetry.specs.Twins.{numbered_by, SortsWithinClasses}
 use Rattle.order_symmetry.specs.declared.numbered.Numbered.{Numbered}
 use Rattle.order_symmetry.proofs.Ranks.{sorted-map}
-use Rattle.order_symmetry.proofs.Sorted.{none-before, none-before-unique, times-permutation}
 
 abbrev pub placed_by : List Order → List ℕ → List Placed
 placed_by orders numbers = map placed_of (numbered_by orders numbers)
@@ -103,12 +103,12 @@ pub sorted-settled : (orders : List Order) (numbers : List ℕ) (items : List Nu
     Ordered orders → IsPermutation (numbered_by orders numbers) items →
     IsSortedBy stands_before items → map placed_of items ≡ placed_by orders (settle orders numbers)
 sorted-settled orders numbers items o p up =
-    none-before-unique (map placed_of items) (placed_by orders (settle orders numbers))
-    (none-before (map placed_of items) (sorted-map items up))
-    (none-before (placed_by orders (settle orders numbers))
+    one-in-order (map placed_of items) (placed_by orders (settle orders numbers))
+    (sorted-in-order precedes precedes-is-an-order (map placed_of items) (sorted-map items up))
+    (sorted-in-order precedes precedes-is-an-order (placed_by orders (settle orders numbers))
     (rising-sorted orders (settle orders numbers) o (settle-rises orders numbers))) (λ x.
-    sym (times-permutation (placed_by orders numbers) (map placed_of items)
-    (IsPermutation-map placed_of (numbered_by orders numbers) items p) x)
+    times-moved same_placed x (placed_by orders numbers) (map placed_of items)
+    (IsPermutation-map placed_of (numbered_by orders numbers) items p)
     ∙ sym (settle-times orders numbers x))
 
 -- the numbers alone

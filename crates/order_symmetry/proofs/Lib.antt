@@ -1,5 +1,4 @@
 pub mod Keys
-pub mod Sorted
 pub mod Ranks
 pub mod Limits
 pub mod Places

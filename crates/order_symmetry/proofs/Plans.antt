@@ -15,7 +15,7 @@ use Rattle.list_laws.proofs.Tests.{and-left, and-right, last-or-below, either}
 use Rattle.list_laws.proofs.Lists.{drop-step}
 use Rattle.mill_laws.proofs.Ranking.{precedes-self, rank-rising}
 use Rattle.mill_laws.specs.RankLaws.{Rising}
-use Rattle.mill_laws.proofs.Ranked.{get-below, rank-length, ranked-loss, same-legal, same-length}
+use Rattle.mill_laws.proofs.Ranked.{get-below, rank-length, ranked-loss, same-legal, ranked-count}
 use Rattle.order_symmetry.specs.Numbered.{placed_of}
 use Rattle.order_symmetry.specs.Ranked.{RankedOrders, IsPlanOf, homes_of, read_in_rank}
 use Rattle.order_symmetry.specs.declared.numbered.Numbered.{Numbered}
@@ -188,7 +188,7 @@ filled-plan orders path slabs e f =
           sym (same-legal orders slabs each mill s) ∙ ap (λ p.
           legal mill (slab s p (ranked_orders orders))) back)
           ∙ ap (λ k. each_below k (λ s. legal mill (slab s path (ranked_orders orders))))
-          (sym (same-length orders slabs each));
+          (sym (ranked-count orders));
       loses =
           λ charge. sym (ranked-loss orders slabs each charge) ∙ ap (λ p.
           loss charge p (ranked_orders orders)) back;

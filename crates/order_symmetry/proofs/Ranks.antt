@@ -1,5 +1,5 @@
 -- A file's orders, sorted by the key, are its rank.
-use Rattle.std.proofs.Common.{ℕ, suc, ◌+◌, ◌≡◌, true, false, List, [], ◌∷◌, ◌++◌, map, refl}
+use Rattle.std.proofs.Common.{ℕ, suc, ◌+◌, ◌≡◌, List, [], ◌∷◌, ◌++◌, map, refl}
 use Rattle.std.proofs.Common.{sym, ap, ◌∙◌, arith, length, get_or, take, ◌<◌}
 use Rattle.std.proofs.lemmas.List.Sorted.{IsPermutation-map}
 use Rattle.std.proofs.lemmas.List.{get_or-map, length-map, take_more, length-take, map-append}
@@ -9,15 +9,12 @@ use Rattle.list_laws.specs.Sets.{times}
 use Rattle.mill_model.specs.Rank.{Placed, rank_from, rank, precedes}
 use Rattle.mill_model.specs.Rank.{same_placed}
 use Rattle.mill_model.specs.declared.order.Order.{Order}
-use Rattle.list_laws.proofs.Among.{each-weaker}
-use Rattle.mill_laws.proofs.Ranking.{rank-rising, all-put}
-use Rattle.mill_laws.specs.RankLaws.{Rising}
+use Rattle.list_laws.proofs.InOrder.{sorted-in-order, times-moved}
+use Rattle.mill_laws.proofs.Ranking.{rank-rising, all-put, one-in-order, rising-in-order}
+use Rattle.mill_laws.proofs.Ranking.{precedes-is-an-order, rank-times}
 use Rattle.order_symmetry.specs.Numbered.{placed_of, stands_before}
 use Rattle.order_symmetry.specs.declared.numbered.Numbered.{Numbered}
-use Rattle.order_symmetry.proofs.Sorted.{NoneBefore, none-before, none-before-unique, one_way}
-use Rattle.order_symmetry.proofs.Sorted.{times-permutation}
 use Rattle.mill_model.specs.Rank.{placed_from}
-use Rattle.mill_laws.proofs.Ranking.{rank-times}
 
 pub placed_from-append : (k : ℕ) (xs ys : List Order) →
     placed_from k (xs ++ ys) ≡ placed_from k xs ++ placed_from (k + length xs) ys
@@ -48,14 +45,6 @@ rank-each P k (order ∷ orders) h =
     all-put P (record { order = order; place = k }) (rank_from (suc k) orders) h.0
     (rank-each P (suc k) orders h.1)
 
--- and none stands before an earlier one
-rising-none : (xs : List Placed) → Rising xs → NoneBefore xs
-rising-none [] r = tt
-rising-none (x ∷ xs) r = (
-  each-weaker (λ y. precedes x y ≡ true) (λ y. precedes y x ≡ false) xs (λ y h. one_way x y h) r.0,
-  rising-none xs r.1,
-)
-
 pub sorted-map : (items : List Numbered) → IsSortedBy stands_before items →
     IsSortedBy precedes (map placed_of items)
 sorted-map items up k d l h =
@@ -70,9 +59,9 @@ pub sorted-rank : (orders : List Order) (given items : List Numbered) →
     map placed_of given ≡ placed_from 0 orders → IsPermutation given items →
     IsSortedBy stands_before items → map placed_of items ≡ rank orders
 sorted-rank orders given items e p up =
-    none-before-unique (map placed_of items) (rank orders)
-    (none-before (map placed_of items) (sorted-map items up))
-    (rising-none (rank orders) (rank-rising 0 orders)) (λ x.
-    sym (times-permutation (map placed_of given) (map placed_of items)
-    (IsPermutation-map placed_of given items p) x) ∙ ap (times same_placed x) e
+    one-in-order (map placed_of items) (rank orders)
+    (sorted-in-order precedes precedes-is-an-order (map placed_of items) (sorted-map items up))
+    (rising-in-order (rank orders) (rank-rising 0 orders)) (λ x.
+    times-moved same_placed x (map placed_of given) (map placed_of items)
+    (IsPermutation-map placed_of given items p) ∙ ap (times same_placed x) e
     ∙ sym (rank-times 0 orders x))

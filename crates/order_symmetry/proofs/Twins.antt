@@ -17,17 +17,18 @@ use Rattle.mill_model.specs.Rank.{Placed, is_before, same_order, put_in_rank, ra
 use Rattle.mill_model.specs.Rank.{ranked_orders, plan_in_rank}
 use Rattle.mill_model.specs.Tree.{next_new, canonical}
 use Rattle.mill_model.specs.declared.order.Order.{Order}
-use Rattle.list_laws.proofs.Tests.{and-left, and-right, either, or-cases, or-left, or-right}
+use Rattle.list_laws.proofs.Tests.{and-left, and-right, either, equal-tests, or-cases}
+use Rattle.list_laws.proofs.Tests.{or-left, or-right, or-swap}
 use Rattle.list_laws.proofs.Among.{all-map}
 use Rattle.list_laws.proofs.Sums.{total-cong}
 use Rattle.mill_laws.proofs.Groups.{numbers-below, next_new-le}
 use Rattle.mill_laws.proofs.Canonical.{place, place-eqb, slab-renamed, canonical-grows}
 use Rattle.mill_laws.proofs.Canonical.{canonical-numbers}
 use Rattle.list_laws.proofs.LastPlaces.{by_last, by_last-map, total-by_last}
-use Rattle.mill_laws.proofs.Forms.{canonical-same}
+use Rattle.mill_laws.proofs.GrowingNumbers.{canonical-same}
 use Rattle.mill_model.proofs.Slabs.{colours_of}
 use Rattle.mill_laws.proofs.Ranked.{rank-load, rank-colour, rank-length, ranked-each, get-below}
-use Rattle.mill_laws.proofs.Ranked.{long, same-length}
+use Rattle.mill_laws.proofs.Ranked.{long, ranked-count}
 use Rattle.mill_laws.proofs.Settle.{put, settle, settle-chosen, settle-grows, settle-rises, rises}
 use Rattle.order_symmetry.specs.Ranked.{RankedOrders, IsPlanOf, orders_of, read_in_rank}
 use Rattle.order_symmetry.specs.Twins.{looks_like, slabs_like, RiseInClasses, IsSortedTwin}
@@ -50,15 +51,10 @@ all-from test (x ∷ xs) h =
     rw (h x (or-left (eqb x x) (holds x xs) (eq-eqb x x refl))) (all-from test xs (λ c k.
     h c (or-right (eqb c x) (holds c xs) k)))
 
-both-true : (a b : Bool) → (a ≡ true → b ≡ true) → (b ≡ true → a ≡ true) → a ≡ b
-both-true true b f g = sym (f refl)
-both-true false true f g = g refl
-both-true false false f g = refl
-
 all-same : (test : ℕ → Bool) (xs ys : List ℕ) → ((c : ℕ) → holds c xs ≡ holds c ys) →
     list_all test xs ≡ list_all test ys
 all-same test xs ys h =
-    both-true (list_all test xs) (list_all test ys) (λ k. all-from test ys (λ c m.
+    equal-tests (list_all test xs) (list_all test ys) (λ k. all-from test ys (λ c m.
     all-at test xs c k (h c ∙ m))) (λ k. all-from test xs (λ c m.
     all-at test ys c k (sym (h c) ∙ m)))
 
@@ -80,14 +76,9 @@ put-holds : (s : ℕ) (f : Placed → ℕ) (new : Placed) (xs : List Placed) →
 put-holds s f new [] = refl
 put-holds s f new (x ∷ xs) = elim (either (is_before x.order new.order)) [
   | inl e ↦ rw (e, put-holds s f new xs)
-      (swap (eqb s (f x)) (eqb s (f new)) (holds s (map f xs)))
+      (or-swap (eqb s (f x)) (eqb s (f new)) (holds s (map f xs)))
   | inr e ↦ rw e refl
 ]
-  where
-    swap : (a b r : Bool) → (a || (b || r)) ≡ (b || (a || r))
-    swap true true r = refl
-    swap true false r = refl
-    swap false b r = refl
 
 rank-holds : (s : ℕ) (plan : List ℕ) (k : ℕ) (orders : List Order) →
     k + length orders ≡ length plan →
@@ -105,7 +96,7 @@ slabs-ranked : (orders : List Order) (plan : List ℕ) → numbers_each plan ord
     slabs_like weight colours (ranked_orders orders) (plan_in_rank orders plan) ≡ slabs_like weight
     colours orders plan
 slabs-ranked orders plan each weight colours =
-    rw (same-length orders plan each) (total-cong (length orders) _ _ (λ s l.
+    rw (ranked-count orders) (total-cong (length orders) _ _ (λ s l.
     ap₂ (λ a b. cond (a && b) 1 0) (rank-holds s plan 0 orders (omega (
       arith,
       long orders plan each,
@@ -153,14 +144,9 @@ put-number s a [] (b ∷ more) = refl
 put-number s a (o ∷ []) (b ∷ more) = refl
 put-number s a (o ∷ p ∷ orders) (b ∷ more) = elim (either (same_order o p && ltb b a)) [
   | inl e ↦ rw (e, put-number s a (p ∷ orders) more)
-      (swap (eqb s b) (eqb s a) (holds s more))
+      (or-swap (eqb s b) (eqb s a) (holds s more))
   | inr e ↦ rw e refl
 ]
-  where
-    swap : (a b r : Bool) → (a || (b || r)) ≡ (b || (a || r))
-    swap true true r = refl
-    swap true false r = refl
-    swap false b r = refl
 
 settle-number : (s : ℕ) (orders : List Order) (numbers : List ℕ) →
     holds s (settle orders numbers) ≡ holds s numbers

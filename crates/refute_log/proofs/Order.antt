@@ -2,13 +2,14 @@
 use Rattle.std.proofs.Common.{ℕ, ◌<◌, ◌≡◌, ◌⊎◌, Bool, true, false, ◌&&◌, ◌||◌, List, [], ◌∷◌, ◌++◌}
 use Rattle.std.proofs.Common.{eqb, ltb, refl, sym, ◌∙◌, subst, arith, inl, inr, eqb-true, eq-eqb}
 use Rattle.std.proofs.Common.{lt-ltb, le-ltb}
-use Rattle.std.proofs.lemmas.Bool.{cases_Bool, and_parts}
+use Rattle.std.proofs.lemmas.Bool.{cases_Bool}
 use Rattle.std.proofs.lemmas.Bool.Decides.{nat_tests}
 use Rattle.std.specs.Prelude.{◌==◌}
 use Rattle.std.specs.Ordering.{ordering_index}
 use Rattle.std.specs.declared.cmp.Ordering.{Ordering}
 use Rattle.std.specs.declared.cmp.Ordering.TheVariants as order
 use Rattle.list_laws.proofs.Tests.{head-cases}
+use Rattle.list_laws.proofs.Times.{same_list-eq}
 use Rattle.list_laws.specs.Sets.{same_list}
 use Rattle.refute_log.specs.Rising.{comes_before, path_order}
 
@@ -47,18 +48,10 @@ before-irrefl (g ∷ p) =
     let l : ltb g g ≡ false = le-ltb g g (omega arith) in
     let e : eqb g g ≡ true = eq-eqb g g refl in rw (l, e, ih) refl
 
-pub same-eq : (xs ys : List ℕ) → same_list xs ys ≡ true → xs ≡ ys
-same-eq [] [] h = refl
-same-eq [] (y ∷ ys) h = absurd (grind arith)
-same-eq (x ∷ xs) [] h = absurd (grind arith)
-same-eq (x ∷ xs) (y ∷ ys) h =
-    let p = and_parts (eqb x y) (same_list xs ys) h in
-    let a : x ≡ y = eqb-true x y p.0 in let b : xs ≡ ys = same-eq xs ys p.1 in cc
-
 pub before-differs : (p q : List ℕ) → comes_before p q ≡ true → same_list p q ≡ false
 before-differs p q h = elim (cases_Bool (same_list p q)) [
   | inl s ↦ (
-      let e : p ≡ q = same-eq p q s in
+      let e : p ≡ q = same_list-eq p q s in
       let k : comes_before q q ≡ true = subst (λ x. comes_before x q ≡ true) e h in
       let z : comes_before q q ≡ false = before-irrefl q in absurd (grind arith)
       )
@@ -175,6 +168,6 @@ order-index p q = by_answer (path_order p q) refl
     by_answer : (o : Ordering) → path_order p q ≡ o → (ordering_index o == 0) ≡ comes_before p q
     by_answer order.Less e = sym (order-before p q e)
     by_answer order.Equal e =
-        let s : p ≡ q = same-eq p q (order-same p q e) in
+        let s : p ≡ q = same_list-eq p q (order-same p q e) in
         sym (subst (λ x. comes_before x q ≡ false) (sym s) (before-irrefl q))
     by_answer order.Greater e = sym (before-not q p (order-after p q e))

@@ -33,6 +33,7 @@ use Rattle.refute_log.proofs.RecordLines.{words-first_line, record-is_no_end}
 use Rattle.refute_log.proofs.Reading.{spelled, same-front, length-ordinals}
 use Rattle.refute_log.proofs.Rises.{rises-front}
 use Rattle.mill_model.proofs.Records.{recorded-append}
+use Rattle.mill_model.specs.declared.limits.TheConstants.{MAX_NODES}
 
 mag-small : (x : ℤ) → IsWithin 20000000000 x → mag x < 2 ^ 63
 mag-small (pos n) w = omega (arith, ints)
@@ -264,7 +265,7 @@ rest-same orders first stated entries rest a b (ends y) (falls x) =
 -- behind the records
 data Place (orders first : ℕ) (lines : List (List ℕ)) (answer : Result Logged LogTextError)
     : Type 0 where
-  nowhere : ((stated : ℕ) → stated ≤ 1000000000 → ¬ (BeginsWith lines (first_line stated ∷ [])))
+  nowhere : ((stated : ℕ) → stated ≤ MAX_NODES → ¬ (BeginsWith lines (first_line stated ∷ [])))
       → answer ≡ Err (BadLine first) → Place orders first lines answer
   behind : Placed orders first lines answer → Place orders first lines answer
 

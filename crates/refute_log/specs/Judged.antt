@@ -6,6 +6,7 @@ use Rattle.line_text.specs.Words.{BeginsWith}
 use Rattle.mill_model.specs.Log.{recorded}
 use Rattle.mill_model.specs.declared.closing.Entry.{Entry}
 use Rattle.mill_model.specs.Exactly.{ComesExactly}
+use Rattle.mill_model.specs.declared.limits.TheConstants.{MAX_NODES}
 use Rattle.refute_log.specs.Rising.{rises}
 use Rattle.refute_log.specs.Fits.{fits}
 use Rattle.refute_log.specs.Logged.{Logged}
@@ -17,7 +18,7 @@ use Rattle.refute_log.specs.declared.error.LogTextError.TheVariants.{OutOfMemory
 
 -- no first line of a log stands first
 pub record LacksFirstLine (first : ℕ) (lines : List (List ℕ)) (line : ℕ) : Type 0 where
-  pub no_first_line : (stated : ℕ) → stated ≤ 1000000000
+  pub no_first_line : (stated : ℕ) → stated ≤ MAX_NODES
       → ¬ (BeginsWith lines (first_line stated ∷ []))
   pub place : line ≡ first
 

@@ -3,6 +3,7 @@ use Rattle.std.specs.Prelude.{ℕ, ◌^◌, ◌≡◌, ◌<◌, ◌≤◌, true,
 use Rattle.std.specs.List.{list_all}
 use Rattle.mill_model.specs.Log.{recorded}
 use Rattle.mill_model.specs.declared.closing.Entry.{Entry}
+use Rattle.mill_model.specs.declared.limits.TheConstants.{MAX_NODES}
 use Rattle.refute_log.specs.Rising.{rises}
 use Rattle.refute_log.specs.Fits.{fits}
 
@@ -14,6 +15,6 @@ pub record Logged : Type 0 where
 -- what each log keeps
 pub record IsLog (log : Logged) : Type 0 where
   pub few_orders : log.orders < 2 ^ 16
-  pub few_entries : length log.entries ≤ 1000000000
+  pub few_entries : length log.entries ≤ MAX_NODES
   pub fit : list_all (fits log.orders) log.entries ≡ true
   pub rise : rises (recorded log.entries) ≡ true

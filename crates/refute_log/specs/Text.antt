@@ -9,6 +9,7 @@ use Rattle.mill_model.specs.Log.{recorded}
 use Rattle.mill_model.specs.declared.closing.Entry.{Entry}
 use Rattle.mill_model.specs.declared.closing.Closing.{Closing}
 use Rattle.mill_model.specs.declared.closing.Closing.TheVariants.{Split, Leaf, Priced, Dominated}
+use Rattle.mill_model.specs.declared.limits.TheConstants.{MAX_NODES}
 use Rattle.refute_log.specs.Rising.{rises}
 use Rattle.refute_log.specs.Fits.{fits}
 use Rattle.refute_log.specs.Logged.{Logged}
@@ -57,7 +58,7 @@ log_text log = text_of (log_lines (length log.entries) log.entries ++ codes "end
 pub record BeginsLog (orders stated : ℕ) (entries : List Entry) (lines rest : List (List ℕ))
     : Type 0 where
   pub text : lines ≡ log_lines stated entries ++ rest
-  pub few : stated ≤ 1000000000
+  pub few : stated ≤ MAX_NODES
   pub fit : list_all (fits orders) entries ≡ true
   pub rise : rises (recorded entries) ≡ true
 

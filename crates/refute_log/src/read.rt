@@ -3,6 +3,7 @@ ghost use Rattle.std.specs.Prelude.{IfSome, IfNone, Ok, Err, ℕ};
 ghost use Rattle.line_text.specs.Lines.{text_lines};
 ghost use Rattle.line_text.specs.Words.{BeginsWith};
 ghost use Rattle.mill_model.specs.Log.{recorded};
+ghost use Rattle.mill_model.specs.declared.limits.TheConstants.{MAX_NODES};
 ghost use Rattle.refute_log.specs.Rising.{rises};
 ghost use Rattle.refute_log.specs.Logged.{Logged};
 ghost use Rattle.refute_log.specs.Text.{first_line, IsLogText};
@@ -15,12 +16,9 @@ use crate::log::Log;
 use crate::paths::compare;
 use crate::record::record_on;
 use line_text::{Lines, Words, is_end};
-use mill_model::Entry;
+use mill_model::{Entry, MAX_NODES};
 use std::alloc::Global;
 use std::cmp::Ordering;
-
-/// The greatest number of records that a log states.
-const MAX_ENTRIES: u64 = 1_000_000_000;
 
 /// The log for this number of orders that a text stands for. Lines are counted from 1.
 pub fn parse_log(alloc: Global, orders: u16, bytes: &[u8]) -> Result<Log, LogTextError>
@@ -90,8 +88,8 @@ fn judged(alloc: Global, orders: u16, mut lines: Lines, first: u64) -> Result<Lo
 // The number of records that the next line states, if it is the first line of a log.
 fn next_count(lines: &mut Lines) -> Option<u64>
     ensures some { IfSome result (λ count. lines.old ≡ first_line count ∷ lines.new) }
-    ensures limit { IfSome result (λ count. count ≤ 1000000000) }
-    ensures none { IfNone result ((count : ℕ) → count ≤ 1000000000
+    ensures limit { IfSome result (λ count. count ≤ MAX_NODES) }
+    ensures none { IfNone result ((count : ℕ) → count ≤ MAX_NODES
         → ¬ (BeginsWith lines.old (first_line count ∷ []))) }
 {
     let Some(line) = lines.next_line() else {
@@ -103,8 +101,8 @@ fn next_count(lines: &mut Lines) -> Option<u64>
 // The number of records that a line states, if it is the first line of a log.
 fn count_on(line: &[u8]) -> Option<u64>
     ensures some { IfSome result (λ count. line.now ≡ first_line count) }
-    ensures limit { IfSome result (λ count. count ≤ 1000000000) }
-    ensures none { IfNone result ((count : ℕ) → count ≤ 1000000000
+    ensures limit { IfSome result (λ count. count ≤ MAX_NODES) }
+    ensures none { IfNone result ((count : ℕ) → count ≤ MAX_NODES
         → line.now ≢ first_line count) }
 {
     let mut words = Words::new(line);
@@ -114,7 +112,7 @@ fn count_on(line: &[u8]) -> Option<u64>
     if words.next_word() != Some(b"1".as_slice()) {
         return None;
     }
-    let Some(count) = words.next_number(MAX_ENTRIES) else {
+    let Some(count) = words.next_number(MAX_NODES) else {
         return None;
     };
     if words.is_empty() { Some(count) } else { None }

@@ -20,7 +20,7 @@ impl Model for Reply {
 impl Reply {
     ghost use Rattle.std.specs.Prelude.{◌≡◌, OnOk, OnErr};
     ghost use Rattle.std.specs.Io.KnownBytes.{Appends};
-    ghost use Rattle.mill_io.specs.Bytes.{AppendsFront};
+    ghost use Rattle.mill_io.specs.Bytes.{AppendsFront, AppendsToBoth};
     ghost use Rattle.mill_io.specs.Causes.{HasCause};
 
     /// A text as it stands.
@@ -42,6 +42,8 @@ impl Reply {
         ensures ok { OnOk result (Appends (K.written sink.old) (K.written sink.new) self.now.text) }
         ensures err { OnErr result
             (AppendsFront (K.written sink.old) (K.written sink.new) self.now.text) }
+        ensures held { AppendsToBoth (K.written sink.old) (K.written sink.new)
+            (K.held sink.old) (K.held sink.new) }
         ensures cause { HasCause (K.faults sink.old) (K.faults sink.new) result }
     {
         sink.write_all(&self.text)

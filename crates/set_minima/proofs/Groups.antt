@@ -71,7 +71,7 @@ module _ (mill : Mill) (charge : ℕ → ℕ) (rest g r : List Order)
 -- Where no order may join a group, the one legal set is the empty one.
 
 -- one of the orders that may join a group together may join it alone
-alone-legal : (mill : Mill) (group set : List Order) (o : Order) → Among o set →
+pub alone-legal : (mill : Mill) (group set : List Order) (o : Order) → Among o set →
     legal mill (group ++ set) ≡ true → legal mill (group ++ o ∷ []) ≡ true
 alone-legal mill group set o i h =
     legal-less mill (group ++ o ∷ []) (group ++ set) light few h

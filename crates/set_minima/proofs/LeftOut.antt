@@ -1,6 +1,6 @@
--- Tables over some orders, whose colours no slab has paid for yet: how a slab's own colours are paid
--- for at once, how a colour with one order comes in at once, how many colours are enough, and how
--- many loads are.
+-- Tables over some orders, whose colours no slab has paid for yet: how a slab's own colours are
+-- paid for at once, how a colour with one order comes in at once, how many colours are enough, and
+-- how many loads are.
 use Rattle.std.proofs.Common.{ℕ, suc, ◌+◌, ◌-◌, ◌<◌, ◌≤◌, ◌≡◌, ◌⊎◌, Bool, true, false, ◌||◌, List}
 use Rattle.std.proofs.Common.{[], ◌∷◌, ◌++◌, length, map, get_or, ℤ, pos, ◌≤ℤ◌, Option, Some, None}
 use Rattle.std.proofs.Common.{eqb, eq-eqb, refl, sym, ap, subst, ◌∙◌, arith, inl, inr, cond}

@@ -8,3 +8,7 @@ pub mod Least
 pub mod Holding
 pub mod Groups
 pub mod LeftOut
+pub mod CellNumbers
+pub mod OneCell
+pub mod LayersRaised
+pub mod WholeTables

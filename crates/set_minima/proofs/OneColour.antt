@@ -195,3 +195,36 @@ module _ (rest : List Order) (A : ℕ → Bool) (own : List ℕ) (prices : List 
         ap int_sum (none-chosen m prices (nobody-in few 0 m p)) in
         omega (arith, ints));
   }
+
+-- a set without a colour is empty, whatever is allowed
+pub no-colour-allowed : (rest : List Order) (A A' : ℕ → Bool) (prices : List ℤ) (l : ℕ)
+    (b : Option ℤ) → IsBest A [] 0 rest prices l b → IsBest A' [] 0 rest prices l b
+no-colour-allowed rest A A' prices l b h =
+    top-same _ _ _ b
+    (λ m p. record {
+      long = p.long;
+      weighs = p.weighs;
+      fine = λ i e. absurd (nobody m p.long p.few i e);
+      few = p.few;
+    })
+    (λ m p. record {
+      long = p.long;
+      weighs = p.weighs;
+      fine = λ i e. absurd (nobody m p.long p.few i e);
+      few = p.few;
+    }) h
+  where
+    nobody : (m : List Bool) → length m ≡ length rest → different (colours_in m rest) ≤ 0 →
+        (i : ℕ) → in_set i m ≡ true → ⊥
+    nobody m long few i e =
+        let below : i < length m = in-set-below i m e in
+        let c = colour_at rest i in
+        let has : holds c (colours_in m rest) ≡ true = place-colour i m rest e (omega arith) in
+        let one : different (c ∷ []) ≤ different (colours_in m rest) =
+        different-mono (c ∷ []) (colours_in m rest) (λ x q.
+        elim (or-cases (eqb x c) false q) [
+          | inl z ↦ rw (eqb-true x c z) has
+          | inr z ↦ absurd (clash false z refl)
+        ]) in
+        let d : different (c ∷ []) ≡ 1 = refl in
+        absurd (omega arith)

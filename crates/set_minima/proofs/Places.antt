@@ -8,7 +8,7 @@ use Rattle.list_laws.specs.Sets.{chosen, int_sum, holds}
 use Rattle.mill_model.specs.Slab.{load}
 use Rattle.mill_model.specs.Bounds.{in_set}
 use Rattle.mill_model.specs.declared.order.Order.{Order}
-use Rattle.list_laws.proofs.Tests.{or-cases, or-left, or-right}
+use Rattle.list_laws.proofs.Tests.{or-cases, or-left, or-right, or-swap}
 use Rattle.set_minima.specs.Packs.{nobody, colour_at, colours_in}
 
 pub in-set-same : (j : ℕ) (marks : List Bool) (b : Bool) → j < length marks →
@@ -51,12 +51,6 @@ sum-place (suc j) (true ∷ marks) (y ∷ ys) h k =
     sum-place j marks ys (omega arith) (omega arith) in omega (arith, ints)
 sum-place (suc j) (false ∷ marks) (y ∷ ys) h k = sum-place j marks ys (omega arith) (omega arith)
 
-swap : (a b c : Bool) → (a || (b || c)) ≡ (b || (a || c))
-swap true true c = refl
-swap true false c = refl
-swap false true c = refl
-swap false false c = refl
-
 pub colours-place : (x j : ℕ) (marks : List Bool) (rest : List Order) → j < length marks →
     j < length rest → holds x (colours_in (set marks j true) rest) ≡ (eqb x (colour_at rest j)
     || holds x (colours_in (set marks j false) rest))
@@ -65,7 +59,7 @@ colours-place x j (m ∷ marks) [] h k = absurd (omega arith)
 colours-place x zero (m ∷ marks) (o ∷ rest) h k = refl
 colours-place x (suc j) (true ∷ marks) (o ∷ rest) h k =
     ap (λ b. eqb x o.colour || b) (colours-place x j marks rest (omega arith) (omega arith))
-    ∙ swap (eqb x o.colour) (eqb x (colour_at rest j)) (holds x
+    ∙ or-swap (eqb x o.colour) (eqb x (colour_at rest j)) (holds x
     (colours_in (set marks j false) rest))
 colours-place x (suc j) (false ∷ marks) (o ∷ rest) h k =
     colours-place x j marks rest (omega arith) (omega arith)

@@ -2,6 +2,7 @@ ghost use Rattle.std.specs.Prelude.{◌≡◌, ◌≤◌, ◌<◌, ◌+◌, ◌-
 ghost use Rattle.std.specs.Prelude.{IfOk, IsTrue};
 ghost use Rattle.shared_words.specs.Meter.{IsTicketSeatOf, AreNumbersBelow};
 ghost use Rattle.shared_words.specs.Meter.{draw_at, number_of, spend_of};
+ghost use Rattle.mill_model.specs.declared.limits.TheConstants.{MAX_NODES};
 
 use crate::meter_rule::{Draws, EachOnce, Halts, Hears, MeterKey, MeterView, OneShare};
 use crate::meter_seat::MeterSeat;
@@ -41,7 +42,7 @@ impl Meter {
     /// the budget, and so learn that it is spent.
     pub fn new(alloc: Global, nodes: u64, shares: u16) -> Result<(Meter, MeterSeat), OutOfMemory>
         requires some { 0 < shares }
-        requires limit { nodes ≤ 1000000000 }
+        requires limit { nodes ≤ MAX_NODES }
         ensures meter { IfOk result (λ made. (made.0.nodes ≡ nodes) × (made.0.shares ≡ shares)) }
         ensures of { IfOk result (λ made. IsTicketSeatOf made.0 made.1) }
         ensures seat { IfOk result (λ made. (made.1.shares ≡ shares) × (made.1.spends ≡ shares)

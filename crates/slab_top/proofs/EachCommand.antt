@@ -4,6 +4,7 @@ use Rattle.std.proofs.Common.{◌≡◌, ◌≢◌, ℕ, ◌≤◌, Bool, true, 
 use Rattle.std.proofs.Common.{sym, ap, ◌∙◌, subst, arith}
 use Rattle.mill_model.specs.Instance.{Problem}
 use Rattle.mill_model.specs.Size.{enough}
+use Rattle.mill_model.specs.declared.limits.Limits.{Limits}
 use Rattle.instance_text.specs.Text.{IsInstanceText}
 use Rattle.instance_text.proofs.Exact.{begins_once}
 use Rattle.answer_text.specs.declared.answer.Answer.{Answer}
@@ -44,12 +45,12 @@ pub record IsCommand (Serves : Job → List ℕ → Outcome → Type 0) : Type 0
 -- ---- commands that answer an instance
 
 -- an answer isn't feasible where the budget is enough
-solution-otherwise : (nodes : ℕ) (problem : Problem) (answer : Answer) →
-    IsSolution nodes problem answer → enough (length problem.orders) ≤ nodes →
+solution-otherwise : (limits : Limits) (problem : Problem) (answer : Answer) →
+    IsSolution limits problem answer → enough (length problem.orders) ≤ limits.nodes →
     status_of (Solved answer) ≢ FEASIBLE
-solution-otherwise nodes problem (Feasible loss plan spent) right budget e =
+solution-otherwise limits problem (Feasible loss plan spent) right budget e =
     let small = right.1.small_budget in omega arith
-solution-otherwise nodes problem answer right budget e = omega (arith, e)
+solution-otherwise limits problem answer right budget e = omega (arith, e)
 
 -- an input that is an instance's text is read as this instance
 alone-is : (p : ℕ) (bytes : List ℕ) (problem read : Problem) → problem.p ≡ p →
@@ -60,50 +61,51 @@ alone-is p bytes problem read colours text reads =
     same.0 ∙ sym reads.2.0
 
 -- answers of which some fact holds, by which they are right
-module _ (Is : ℕ → Problem → Answer → Type 0)
-    (right : (nodes : ℕ) (problem : Problem) (answer : Answer) → Is nodes problem answer →
-    IsSolution nodes problem answer) where
-  answers-agree : (nodes : ℕ) (problem : Problem) (a b : Outcome) →
-      Tells Solved (Is nodes problem) a → Tells Solved (Is nodes problem) b → AgreeOnOutcomes a b
-  answers-agree nodes problem =
-      tells-agree Solved (Is nodes problem) (λ s t h k. solutions-agree nodes problem s t
-      (right nodes problem s h) (right nodes problem t k))
+module _ (Is : Limits → Problem → Answer → Type 0)
+    (right : (limits : Limits) (problem : Problem) (answer : Answer) → Is limits problem answer →
+    IsSolution limits problem answer) where
+  answers-agree : (limits : Limits) (problem : Problem) (a b : Outcome) →
+      Tells Solved (Is limits problem) a → Tells Solved (Is limits problem) b →
+      AgreeOnOutcomes a b
+  answers-agree limits problem =
+      tells-agree Solved (Is limits problem) (λ s t h k. solutions-agree limits problem s t
+      (right limits problem s h) (right limits problem t k))
 
   answer-otherwise : (job : Job) (bytes : List ℕ) (problem : Problem) (a : Outcome) →
       problem.p ≡ job.p → IsInstanceText bytes problem →
       enough (length problem.orders) ≤ job.limits.nodes → (read : Problem) →
-      (instance_alone job.p bytes).Reads read → Tells Solved (Is job.limits.nodes read) a →
+      (instance_alone job.p bytes).Reads read → Tells Solved (Is job.limits read) a →
       status_of a ≢ FEASIBLE
   answer-otherwise job bytes problem a colours text budget read reads tells e =
-      let nodes = job.limits.nodes in
+      let limits = job.limits in
       let same = alone-is job.p bytes problem read colours text reads in
-      solution-otherwise nodes read tells.0 (right nodes read tells.0 tells.2)
-      (subst (λ (q : Problem). enough (length q.orders) ≤ nodes) same budget)
+      solution-otherwise limits read tells.0 (right limits read tells.0 tells.2)
+      (subst (λ (q : Problem). enough (length q.orders) ≤ limits.nodes) same budget)
       (sym (ap status_of tells.1) ∙ e)
 
 solve-is-command : IsCommand Solves
 solve-is-command = record {
   agree = λ job bytes. replies-agree (instance_alone job.p bytes)
-      (λ problem. Tells Solved (IsSolved job.limits.nodes problem)) (alone-decided job.p bytes)
-      (λ read reads. answers-agree IsSolved (λ nodes problem answer is. is.told.solution)
-      job.limits.nodes read);
+      (λ problem. Tells Solved (IsSolved job.limits problem)) (alone-decided job.p bytes)
+      (λ read reads. answers-agree IsSolved (λ limits problem answer is. is.told.solution)
+      job.limits read);
   with_enough = λ job bytes problem a colours text budget.
       replies-otherwise (instance_alone job.p bytes)
-      (λ problem. Tells Solved (IsSolved job.limits.nodes problem)) a
-      (answer-otherwise IsSolved (λ nodes problem answer is. is.told.solution) job bytes problem a
+      (λ problem. Tells Solved (IsSolved job.limits problem)) a
+      (answer-otherwise IsSolved (λ limits problem answer is. is.told.solution) job bytes problem a
       colours text budget);
 }
 
 prove-is-command : IsCommand Proves
 prove-is-command = record {
   agree = λ job bytes. replies-agree (instance_alone job.p bytes)
-      (λ problem. Tells Solved (IsProved job.limits.nodes problem)) (alone-decided job.p bytes)
-      (λ read reads. answers-agree IsProved (λ nodes problem answer is. is.told.solution)
-      job.limits.nodes read);
+      (λ problem. Tells Solved (IsProved job.limits problem)) (alone-decided job.p bytes)
+      (λ read reads. answers-agree IsProved (λ limits problem answer is. is.told.solution)
+      job.limits read);
   with_enough = λ job bytes problem a colours text budget.
       replies-otherwise (instance_alone job.p bytes)
-      (λ problem. Tells Solved (IsProved job.limits.nodes problem)) a
-      (answer-otherwise IsProved (λ nodes problem answer is. is.told.solution) job bytes problem a
+      (λ problem. Tells Solved (IsProved job.limits problem)) a
+      (answer-otherwise IsProved (λ limits problem answer is. is.told.solution) job bytes problem a
       colours text budget);
 }
 

@@ -4,3 +4,4 @@ mod Replying
 mod Stopped
 mod EachCommand
 mod Rights
+mod Given

@@ -8,3 +8,4 @@ pub mod Verify
 pub mod Served
 pub mod Agree
 pub mod Run
+pub mod Given

@@ -10,4 +10,4 @@ use Rattle.slab_top.specs.Reply.{Replies, Tells}
 abbrev pub Proves : Job → List ℕ → Outcome → Type 0
 Proves job bytes =
     Replies (instance_alone job.p bytes)
-    (λ problem. Tells Solved (IsProved job.limits.nodes problem))
+    (λ problem. Tells Solved (IsProved job.limits problem))

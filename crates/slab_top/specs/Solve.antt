@@ -10,4 +10,4 @@ use Rattle.slab_top.specs.Reply.{Replies, Tells}
 abbrev pub Solves : Job → List ℕ → Outcome → Type 0
 Solves job bytes =
     Replies (instance_alone job.p bytes)
-    (λ problem. Tells Solved (IsSolved job.limits.nodes problem))
+    (λ problem. Tells Solved (IsSolved job.limits problem))

@@ -4,6 +4,8 @@
 mod commands;
 mod front;
 mod run;
+mod streams;
 
 pub use job_words::{Command, Job, Usage, read_words};
 pub use run::run_plain;
+pub use streams::{RunEnd, run_streams};

@@ -1,8 +1,8 @@
-ghost use Rattle.std.specs.Prelude.{◌≡◌, ◌≢◌, ◌≤◌, Err, length, IfOk, IfSome, IsSome, OnOk};
-ghost use Rattle.std.specs.Prelude.{IsErrOf};
+ghost use Rattle.std.specs.Prelude.{◌≡◌, ◌≢◌, ◌≤◌, ◌++◌, ℕ, List, Err, length, IfOk, IfSome};
+ghost use Rattle.std.specs.Prelude.{IsErrOf, IsSome, OnOk};
 ghost use Rattle.std.specs.Io.KnownBytes.{Appends, IsAtEnd};
 ghost use Rattle.mill_io.specs.Causes.{Rose};
-ghost use Rattle.mill_io.specs.Bytes.{AppendsFront};
+ghost use Rattle.mill_io.specs.Bytes.{AppendsFront, AppendsToBoth, GivesLost};
 ghost use Rattle.job_words.specs.Words.{AskFor, IsInRange, limit_of, texts};
 ghost use Rattle.job_words.specs.declared.job.Job.{Job};
 ghost use Rattle.reply_text.specs.Outcome.{IsToTell};
@@ -10,6 +10,7 @@ ghost use Rattle.reply_text.specs.declared.status.TheConstants.{FEASIBLE, READ_F
 ghost use Rattle.reply_text.specs.declared.status.TheConstants.{OUT_OF_MEMORY};
 ghost use Rattle.slab_top.specs.Served.{Output, IsRight, IsServed, status_of, text_of};
 ghost use Rattle.slab_top.specs.Agree.{Agree, MayEndWith};
+ghost use Rattle.slab_top.specs.Given.{HasAnswered, IsServedWhole};
 ghost use Rattle.slab_top.specs.Run.{HasEnough, IsAnswered, IsOwnStatus, IsStatus, IsToBeRead};
 
 use crate::commands::serve;
@@ -34,6 +35,10 @@ fn outcome_of<S: Source>(alloc: Global, job: Job, source: &mut S) -> Result<Outc
     ensures told { IfOk result IsToTell }
     ensures ended { OnOk result (IfSome (S.left source.old) (λ input.
         length input ≤ limit_of job.command → IsAtEnd (S.left source.new))) }
+    ensures given { IfOk result (HasAnswered job (S.given source.old) (S.given source.new)
+        (S.ended source.new)) }
+    ensures lost { GivesLost (S.left source.old) (S.left source.new)
+        (S.given source.old) (S.given source.new) }
     ensures fault { IsErrOf result Failure.ReadFault
         → Rose (S.faults source.old) (S.faults source.new) }
     ensures kept { result ≢ Err Failure.ReadFault → S.faults source.new ≡ S.faults source.old }
@@ -63,6 +68,8 @@ fn write_out<K: Sink>(sink: &mut K, reply: &Reply) -> u8
     ensures kept { result ≢ WRITE_FAULT → K.faults sink.new ≡ K.faults sink.old }
     ensures front { result ≡ WRITE_FAULT
         → AppendsFront (K.written sink.old) (K.written sink.new) reply.now.text }
+    ensures held { AppendsToBoth (K.written sink.old) (K.written sink.new)
+        (K.held sink.old) (K.held sink.new) }
     ensures fault { result ≡ WRITE_FAULT → Rose (K.faults sink.old) (K.faults sink.new) }
 {
     match reply.write(sink) {
@@ -109,6 +116,26 @@ pub fn run_plain<S: Source, K: Sink>(
         → IsRight (texts words.now) (S.left source.old) output → (written : Output)
         × Agree written output
         × Appends (K.written sink.old) (K.written sink.new) (text_of written) }
+
+    // The same is so of the bytes that the reads of this call gave, which are told always, even of
+    // the real input.
+    ensures given { IsAnswered result → (input : List ℕ) × (output : Output)
+        × (S.given source.new ≡ S.given source.old ++ input)
+        × IsServedWhole (texts words.now) input (S.ended source.new) output
+        × (result ≡ status_of output)
+        × Appends (K.written sink.old) (K.written sink.new) (text_of output) }
+    ensures given_enough { (input : List ℕ) → S.given source.new ≡ S.given source.old ++ input
+        → HasEnough (texts words.now) input → result ≢ FEASIBLE }
+    ensures given_front { result ≡ WRITE_FAULT → (input : List ℕ) × (output : Output)
+        × (S.given source.new ≡ S.given source.old ++ input)
+        × IsServedWhole (texts words.now) input (S.ended source.new) output
+        × AppendsFront (K.written sink.old) (K.written sink.new) (text_of output) }
+
+    // The reads of this call gave all that the source lost, and what was written is held.
+    ensures lost { GivesLost (S.left source.old) (S.left source.new)
+        (S.given source.old) (S.given source.new) }
+    ensures held { AppendsToBoth (K.written sink.old) (K.written sink.new)
+        (K.held sink.old) (K.held sink.new) }
 
     // Bytes that are to be read were read to the end, and else none was.
     ensures ended { IsAnswered result → IfSome (S.left source.old) (λ input.

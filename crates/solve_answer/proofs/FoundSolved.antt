@@ -4,26 +4,26 @@ use Rattle.std.proofs.Common.{◌≡◌, ℕ, ◌<◌, ◌≤◌, List, [], ◌�
 use Rattle.std.proofs.Common.{arith}
 use Rattle.std.specs.Prelude.{Option, IfSome}
 use Rattle.std.proofs.lemmas.Option.{slice_get_within}
-use Rattle.list_laws.specs.Sets.{below}
 use Rattle.mill_model.specs.Instance.{Problem, IsInstance, largest, mill_of, loss_charge}
-use Rattle.mill_model.specs.Plan.{NoneLosesLess}
-use Rattle.mill_model.specs.Best.{IsStartOf, IsTidyPlan, loss_alone}
+use Rattle.mill_model.specs.Pairs.{IsPossibleStart}
+use Rattle.mill_model.specs.Plan.{NoneLosesLess, loss}
+use Rattle.mill_model.specs.Best.{IsStartOf, IsTidyPlan}
 use Rattle.mill_model.specs.Size.{enough}
 use Rattle.mill_model.specs.Tree.{canonical}
+use Rattle.mill_model.specs.declared.limits.Limits.{Limits}
 use Rattle.mill_model.specs.declared.plan.Start.{Start}
-use Rattle.mill_laws.specs.PlanLaws.{EachFits}
 use Rattle.mill_laws.proofs.PlanLaws.{canonical-form-is-legal, canonical-form-is-its-own}
-use Rattle.mill_laws.proofs.PlanLaws.{canonical-form-loses-the-same, each-alone-is-legal}
-use Rattle.mill_model.specs.Best.{IsStartOf}
+use Rattle.mill_laws.proofs.PlanLaws.{canonical-form-loses-the-same}
+use Rattle.mill_laws.proofs.StartBound.{start-bound}
 use Rattle.refute_log.specs.Logged.{Logged, IsLog}
 use Rattle.answer_text.specs.Text.{Fits, refutation_of, most_orders}
 use Rattle.answer_text.specs.declared.answer.Answer.{Answer}
 use Rattle.answer_text.specs.declared.answer.Answer.TheVariants.{Infeasible}
 use Rattle.answer_text.proofs.Printed.{may-print, read-back}
 use Rattle.mill_model.specs.Heavy.{NoneHeavy, IsFirstHeavy}
+use Rattle.mill_model.specs.declared.limits.TheConstants.{MAX_NODES}
 use Rattle.solve_answer.specs.Search.{answer_from}
 use Rattle.solve_answer.specs.Solved.{IsSolution, IsTold, WhereOptimal}
-use Rattle.solve_answer.proofs.AloneLoses.{alone-loses}
 use Rattle.solve_answer.proofs.LossLimit.{optimal-fits, feasible-fits}
 
 module _ (problem : Problem) where
@@ -32,26 +32,22 @@ module _ (problem : Problem) where
   IsFoundPlan charge start =
       IsStartOf problem charge start
 
-  -- what a search by a charge has found, of which some paths wait
-  pub record HasFound (charge : ℕ → ℕ) (nodes : ℕ) (best : Start) (waiting : List (List ℕ))
-      (closed : ℕ) : Type 0 where
-    pub plan : IsFoundPlan charge best
-    pub no_worse :
-        best.loss ≤ loss_alone (mill_of problem) (loss_charge problem.sizes) problem.orders
-    pub least : waiting ≡ [] → NoneLosesLess (mill_of problem) charge problem.orders best.loss
-    pub few : closed ≤ 1000000000
-    pub spent : 0 < length waiting → closed ≡ nodes
-    pub larger : 0 < length waiting → nodes < enough (length problem.orders)
+  -- some possible start for so many moves loses at least this
+  abbrev pub BeginsNoBetter : ℕ → ℕ → Type 0
+  BeginsNoBetter moves lost =
+      (plan : List ℕ)
+      × IsPossibleStart (mill_of problem) (loss_charge problem.sizes) problem.orders moves plan
+      × (lost ≤ loss (loss_charge problem.sizes) plan problem.orders)
 
-  -- the plan that gives each order a slab of its own may begin a search
-  pub alone-starts : (start : Start) → EachFits (mill_of problem) problem.orders →
-      start.plan ≡ below (length problem.orders) →
-      start.loss ≡ loss_alone (mill_of problem) (loss_charge problem.sizes) problem.orders →
-      IsFoundPlan (loss_charge problem.sizes) start
-  alone-starts start fits plan lost = record {
-    legal = rw plan (each-alone-is-legal (mill_of problem) problem.orders fits);
-    loses = rw plan (alone-loses (loss_charge problem.sizes) problem.orders) ∙ sym lost;
-  }
+  -- what a search by a charge has found, of which some paths wait
+  pub record HasFound (charge : ℕ → ℕ) (limits : Limits) (best : Start)
+      (waiting : List (List ℕ)) (closed : ℕ) : Type 0 where
+    pub plan : IsFoundPlan charge best
+    pub no_worse : BeginsNoBetter limits.moves best.loss
+    pub least : waiting ≡ [] → NoneLosesLess (mill_of problem) charge problem.orders best.loss
+    pub few : closed ≤ MAX_NODES
+    pub spent : 0 < length waiting → closed ≡ limits.nodes
+    pub larger : 0 < length waiting → limits.nodes < enough (length problem.orders)
 
   -- a plan that was found is told in canonical form
   found-tidy : (best : Start) → IsFoundPlan (loss_charge problem.sizes) best →
@@ -68,24 +64,30 @@ module _ (problem : Problem) where
 
   -- What a search of an instance that has no heavy order has found.
   module _ (instance : IsInstance problem)
-      (light : NoneHeavy (largest problem.sizes) problem.orders) (nodes : ℕ) (best : Start)
+      (light : NoneHeavy (largest problem.sizes) problem.orders) (limits : Limits) (best : Start)
       (log : Option Logged) where
     abbrev Has : List (List ℕ) → ℕ → Type 0
-    Has = HasFound (loss_charge problem.sizes) nodes best
+    Has = HasFound (loss_charge problem.sizes) limits best
 
     -- it is right,
     found-solution : (waiting : List (List ℕ)) (closed : ℕ) → Has waiting closed →
-        IsSolution nodes problem (answer_from best waiting closed log)
+        IsSolution limits problem (answer_from best waiting closed log)
     found-solution [] closed found =
         (light, record { found = found-tidy best found.plan; least = found.least refl })
     found-solution (path ∷ paths) closed found = (
       light,
-      record {
-        found = found-tidy best found.plan;
-        no_worse = found.no_worse;
-        whole_budget = found.spent (omega arith);
-        small_budget = found.larger (omega arith);
-      },
+      (let bound = start-bound (mill_of problem) (loss_charge problem.sizes) problem.orders
+          limits.moves found.no_worse.0 found.no_worse.1 in
+          let greatest = bound.1.greatest found.no_worse.0 found.no_worse.1 in
+          let here = found.no_worse.2 in
+          record {
+            found = found-tidy best found.plan;
+            start_bound = bound.0;
+            is_bound = bound.1;
+            no_worse = omega (arith, here, greatest);
+            whole_budget = found.spent (omega arith);
+            small_budget = found.larger (omega arith);
+          }),
     )
 
     -- its numbers are within the limits of its text,
@@ -107,7 +109,7 @@ module _ (problem : Problem) where
     -- and its text reads back.
     pub found-told : (waiting : List (List ℕ)) (closed : ℕ) → Has waiting closed →
         IfSome log (λ log. log.orders ≡ length problem.orders) → IfSome log IsLog →
-        IsTold nodes problem (answer_from best waiting closed log)
+        IsTold limits problem (answer_from best waiting closed log)
     found-told waiting closed found orders is = record {
       solution = found-solution waiting closed found;
       reads_back = read-back (length problem.orders) (answer_from best waiting closed log) _ refl
@@ -123,9 +125,9 @@ found-where Is best [] closed log is = is refl
 found-where Is best (path ∷ paths) closed log is = tt
 
 -- An answer without a plan names the first order that is too heavy.
-pub infeasible-told : (nodes : ℕ) (problem : Problem) (place : ℕ) → IsInstance problem →
-    IsFirstHeavy problem place → IsTold nodes problem (Infeasible place)
-infeasible-told nodes problem place instance first =
+pub infeasible-told : (limits : Limits) (problem : Problem) (place : ℕ) → IsInstance problem →
+    IsFirstHeavy problem place → IsTold limits problem (Infeasible place)
+infeasible-told limits problem place instance first =
     let inside = slice_get_within problem.orders place first.order first.here in
     record {
       solution = first;
@@ -135,7 +137,7 @@ infeasible-told nodes problem place instance first =
     }
 
 -- what is told can be printed
-pub told-fits : (nodes : ℕ) (problem : Problem) (answer : Answer) → IsInstance problem →
-    IsTold nodes problem answer → Fits (most_orders answer) answer
-told-fits nodes problem answer instance told =
+pub told-fits : (limits : Limits) (problem : Problem) (answer : Answer) → IsInstance problem →
+    IsTold limits problem answer → Fits (most_orders answer) answer
+told-fits limits problem answer instance told =
     may-print (length problem.orders) answer instance.within.few_orders told.reads_back.fits

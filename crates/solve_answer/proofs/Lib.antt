@@ -1,4 +1,4 @@
 pub mod SolutionsAgree
-mod AloneLoses
+mod PossibleStarts
 mod LossLimit
 mod FoundSolved

@@ -6,9 +6,11 @@ use Rattle.std.specs.List.{list_all}
 use Rattle.list_laws.specs.Sets.{total}
 use Rattle.mill_model.specs.Best.{IsTidyPlan}
 use Rattle.mill_model.specs.Slab.{load}
-use Rattle.mill_model.specs.Instance.{Problem, IsInstance, IsSize, largest, loss_charge}
+use Rattle.mill_model.specs.Instance.{Problem, IsInstance, largest, loss_charge}
 use Rattle.mill_model.specs.Instance.{excess, size_for, mill_of}
 use Rattle.mill_model.specs.Plan.{slab, loss, IsLegalPlan}
+use Rattle.mill_model.proofs.Sizes.{largest-small}
+use Rattle.mill_model.specs.declared.limits.TheConstants.{MAX_NODES}
 use Rattle.list_laws.proofs.Tests.{and-left, and-right}
 use Rattle.refute_log.specs.Logged.{Logged}
 use Rattle.answer_text.specs.declared.answer.Answer.TheVariants.{Optimal, Feasible}
@@ -26,14 +28,7 @@ numbers-below n (s ∷ plan) below =
     at first later zero d inside = first
     at first later (suc k) d inside = later k d (omega arith)
 
--- A size is within its limit, and so is a charge and the loss of a plan.
-
-largest-limit : (sizes : List ℕ) → All IsSize sizes → largest sizes ≤ 20000
-largest-limit [] each = omega arith
-largest-limit (size ∷ sizes) each =
-    let here = (each 0 0 (omega arith)).1 in
-    let later = largest-limit sizes (λ i d inside. each (suc i) d (omega arith)) in
-    omega arith
+-- The sizes are within their limit, so a charge is, and the loss of a plan.
 
 excess-limit : (sizes : List ℕ) (load : ℕ) → excess load (size_for sizes load) ≤ largest sizes
 excess-limit [] load = omega arith
@@ -69,12 +64,12 @@ loss-limit problem plan instance =
   where
     charge-at : (l : ℕ) → loss_charge problem.sizes l ≤ 20000
     charge-at l =
-        let sizes = largest-limit problem.sizes instance.within.each_size in
+        let sizes = largest-small problem.sizes instance.within.each_size in
         let charge = charge-limit problem.sizes l in
         omega arith
 
 -- so the numbers of an answer with a tidy plan are within the limits of its text
-numbers-told : (problem : Problem) (plan : List ℕ) →
+pub numbers-told : (problem : Problem) (plan : List ℕ) →
     IsLegalPlan (mill_of problem) problem.orders plan →
     (length plan ≡ length problem.orders) × All (λ s. s < length problem.orders) plan
 numbers-told problem plan fine =
@@ -100,7 +95,7 @@ optimal-fits problem plan lost log instance found orders =
 
 pub feasible-fits : (problem : Problem) (plan : List ℕ) (lost spent : ℕ) → IsInstance problem →
     IsTidyPlan (mill_of problem) (loss_charge problem.sizes) problem.orders
-    (record { plan = plan; loss = lost }) → spent ≤ 1000000000 →
+    (record { plan = plan; loss = lost }) → spent ≤ MAX_NODES →
     Fits (length problem.orders) (Feasible lost plan spent)
 feasible-fits problem plan lost spent instance found few =
     let limit = loss-limit problem plan instance in

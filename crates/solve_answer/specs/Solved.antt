@@ -4,6 +4,7 @@ use Rattle.mill_model.specs.Best.{IsBest, IsFeasible}
 use Rattle.mill_model.specs.Instance.{Problem, largest, mill_of, loss_charge}
 use Rattle.mill_model.specs.Log.{Refutes, task_of}
 use Rattle.mill_model.specs.declared.closing.Entry.{Entry}
+use Rattle.mill_model.specs.declared.limits.Limits.{Limits}
 use Rattle.line_text.specs.Lines.{text_lines}
 use Rattle.refute_log.specs.Logged.{Logged}
 use Rattle.answer_text.specs.declared.answer.Answer.{Answer}
@@ -11,16 +12,16 @@ use Rattle.answer_text.specs.declared.answer.Answer.TheVariants.{Optimal, Feasib
 use Rattle.answer_text.specs.Text.{answer_text, IsAnswerText}
 use Rattle.mill_model.specs.Heavy.{IsFirstHeavy, NoneHeavy}
 
--- an answer is right, with a budget of so many nodes
-abbrev pub IsSolution : ℕ → Problem → Answer → Type 0
-IsSolution nodes problem (Infeasible place) = IsFirstHeavy problem place
-IsSolution nodes problem (Optimal loss plan refutation) =
+-- an answer is right, for a search with these limits
+abbrev pub IsSolution : Limits → Problem → Answer → Type 0
+IsSolution limits problem (Infeasible place) = IsFirstHeavy problem place
+IsSolution limits problem (Optimal loss plan refutation) =
     NoneHeavy (largest problem.sizes) problem.orders
     × IsBest (mill_of problem) (loss_charge problem.sizes) problem.orders
     (record { plan = plan; loss = loss })
-IsSolution nodes problem (Feasible loss plan spent) =
+IsSolution limits problem (Feasible loss plan spent) =
     NoneHeavy (largest problem.sizes) problem.orders
-    × IsFeasible (mill_of problem) (loss_charge problem.sizes) problem.orders nodes
+    × IsFeasible (mill_of problem) (loss_charge problem.sizes) problem.orders limits
     (record { plan = plan; loss = loss }) spent
 
 -- what is said of its loss and its log, where it is optimal
@@ -40,19 +41,19 @@ HasRefutation nodes problem loss None = ⊥
 HasRefutation nodes problem loss (Some log) = IsRefutation nodes problem loss log.entries
 
 -- an answer is right, and what is printed of it reads as this answer
-pub record IsTold (nodes : ℕ) (problem : Problem) (answer : Answer) : Type 0 where
-  pub solution : IsSolution nodes problem answer
+pub record IsTold (limits : Limits) (problem : Problem) (answer : Answer) : Type 0 where
+  pub solution : IsSolution limits problem answer
   pub reads_back : IsAnswerText (length problem.orders) answer (text_lines (answer_text answer))
 
 -- what `solve` answers to a problem: it has no log
-pub record IsSolved (nodes : ℕ) (problem : Problem) (answer : Answer) : Type 0 where
-  pub told : IsTold nodes problem answer
+pub record IsSolved (limits : Limits) (problem : Problem) (answer : Answer) : Type 0 where
+  pub told : IsTold limits problem answer
   pub log : WhereOptimal (λ loss log. log ≡ None) answer
 
 -- what `prove` answers to a problem: where it is optimal it has a log that refutes its loss
-pub record IsProved (nodes : ℕ) (problem : Problem) (answer : Answer) : Type 0 where
-  pub told : IsTold nodes problem answer
-  pub log : WhereOptimal (HasRefutation nodes problem) answer
+pub record IsProved (limits : Limits) (problem : Problem) (answer : Answer) : Type 0 where
+  pub told : IsTold limits problem answer
+  pub log : WhereOptimal (HasRefutation limits.nodes problem) answer
 
 -- Two answers to a problem agree. Optimal ones have one loss, though it may be that of several
 -- plans, with several logs, and a feasible one loses no less. Feasible ones spend one budget, and

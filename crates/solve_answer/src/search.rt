@@ -2,6 +2,7 @@ ghost use Rattle.std.specs.Prelude.{◌≡◌, ◌<◌, ◌≤◌, All, length, 
 ghost use Rattle.answer_text.specs.Text.{Fits, most_orders};
 ghost use Rattle.solve_answer.specs.Search.{answer_from};
 ghost use Rattle.solve_answer.specs.Solved.{IsProved, IsSolved};
+ghost use Rattle.mill_model.specs.declared.limits.TheConstants.{MAX_NODES};
 
 use crate::start::beginning_of;
 use answer_text::Answer;
@@ -12,16 +13,16 @@ use std::alloc::Global;
 use tree_search::{Found, prove_tree, search_tree};
 
 /// The answer to an instance: a best plan, or what was found until `limits.nodes` paths of
-/// the tree were closed.
+/// the tree were closed. The search starts from a plan that was made better by `limits.moves`.
 pub fn solve(alloc: Global, instance: &Instance, limits: Limits) -> Result<Answer, OutOfMemory>
-    requires { limits.nodes ≤ 1000000000 }
-    ensures is { IfOk result (IsSolved limits.nodes instance.now) }
+    requires { limits.nodes ≤ MAX_NODES }
+    ensures is { IfOk result (IsSolved limits instance.now) }
     ensures told { IfOk result (λ answer. Fits (most_orders answer) answer) }
 {
     if let Some(order) = first_heavy(instance) {
         return Ok(Answer::Infeasible { order });
     }
-    let beginning = beginning_of(alloc, instance)?;
+    let beginning = beginning_of(alloc, instance, limits.moves)?;
     let start = beginning.start;
     let found = search_tree(
         alloc,
@@ -37,14 +38,14 @@ pub fn solve(alloc: Global, instance: &Instance, limits: Limits) -> Result<Answe
 
 /// The same, and with a best plan a log that refutes each lesser loss.
 pub fn prove(alloc: Global, instance: &Instance, limits: Limits) -> Result<Answer, OutOfMemory>
-    requires { limits.nodes ≤ 1000000000 }
-    ensures is { IfOk result (IsProved limits.nodes instance.now) }
+    requires { limits.nodes ≤ MAX_NODES }
+    ensures is { IfOk result (IsProved limits instance.now) }
     ensures told { IfOk result (λ answer. Fits (most_orders answer) answer) }
 {
     if let Some(order) = first_heavy(instance) {
         return Ok(Answer::Infeasible { order });
     }
-    let beginning = beginning_of(alloc, instance)?;
+    let beginning = beginning_of(alloc, instance, limits.moves)?;
     let start = beginning.start;
     let proved = prove_tree(
         alloc,

@@ -1,13 +1,18 @@
-ghost use Rattle.std.specs.Prelude.{◌≡◌, length, IfOk};
-ghost use Rattle.mill_model.specs.Instance.{IsInstance, largest, loss_charge, mill_of};
-ghost use Rattle.list_laws.specs.Sets.{below};
-ghost use Rattle.loss_table.specs.Charges.{AreCharges};
+ghost use Rattle.std.specs.Prelude.{◌≡◌, ◌≤◌, ◌+◌, All, List, IfOk, length};
+ghost use Rattle.mill_model.specs.Charges.{Reaches, charge_of};
 ghost use Rattle.mill_model.specs.Heavy.{NoneHeavy};
-ghost use Rattle.mill_model.specs.Best.{loss_alone};
+ghost use Rattle.mill_model.specs.Instance.{largest};
+ghost use Rattle.mill_model.specs.Pairs.{IsPossibleStart};
+ghost use Rattle.mill_model.specs.Plan.{IsPlanWithLoss};
+ghost use Rattle.mill_model.specs.Rank.{rank};
+ghost use Rattle.mill_model.specs.declared.order.Order.{Order};
+ghost use Rattle.order_symmetry.specs.Ranked.{orders_of};
 ghost use Rattle.solve_answer.specs.Search.{IsBeginning};
 
+use greedy_start::best_start;
+use large_moves::{pair_moves, walk};
 use loss_table::loss_charges;
-use mill_model::{Charges, Instance, OutOfMemory, Plan, Start};
+use mill_model::{Charges, Instance, OutOfMemory, Start};
 use order_symmetry::Ranked;
 use std::alloc::Global;
 
@@ -19,15 +24,18 @@ pub struct Beginning {
     pub start: Start,
 }
 
-/// Where a search of an instance's tree begins: with each order alone. Moves that make the start
-/// better go here.
-pub fn beginning_of(alloc: Global, instance: &Instance) -> Result<Beginning, OutOfMemory>
+/// Where a search of an instance's tree begins, with so many moves on its start.
+pub fn beginning_of(
+    alloc: Global,
+    instance: &Instance,
+    moves: u64,
+) -> Result<Beginning, OutOfMemory>
     requires light { NoneHeavy (largest instance.now.sizes) instance.now.orders }
-    ensures beginning { IfOk result (IsBeginning instance.now) }
+    ensures beginning { IfOk result (IsBeginning instance.now moves) }
 {
     let charges = loss_charges(alloc, instance)?;
-    let start = each_alone(alloc, instance, &charges)?;
     let ranked = Ranked::new(alloc, instance)?;
+    let start = start_of(alloc, &ranked, &charges, moves)?;
     Ok(Beginning {
         charges,
         ranked,
@@ -35,24 +43,28 @@ pub fn beginning_of(alloc: Global, instance: &Instance) -> Result<Beginning, Out
     })
 }
 
-// The plan that gives each order a slab of its own.
-fn each_alone(alloc: Global, instance: &Instance, charges: &Charges) -> Result<Start, OutOfMemory>
-    requires charges { AreCharges instance.now charges.now }
-    requires light { NoneHeavy (largest instance.now.sizes) instance.now.orders }
-    ensures plan { IfOk result (λ start. start.plan ≡ below (length instance.now.orders)) }
-    ensures loss { IfOk result (λ start. start.loss ≡ loss_alone
-        (mill_of instance.now) (loss_charge instance.now.sizes) instance.now.orders) }
-    ensures kept { IsInstance instance.now }
+// The better greedy plan, made better by moves on pairs of slabs; where these leave a loss, a walk
+// of as many steps follows, and moves again.
+fn start_of(
+    alloc: Global,
+    ranked: &Ranked,
+    charges: &Charges,
+    moves: u64,
+) -> Result<Start, OutOfMemory>
+    requires light { All (λ order. order.weight ≤ ranked.now.mill.largest) (orders_of ranked.now) }
+    requires reach { Reaches charges.now ranked.now.mill }
+    ensures start { IfOk result (λ start. (orders : List Order) → ranked.now.placed ≡ rank orders →
+        IsPlanWithLoss ranked.now.mill (charge_of charges.now) orders start.plan start.loss) }
+    ensures possible { IfOk result (λ start. (orders : List Order) →
+        ranked.now.placed ≡ rank orders →
+        IsPossibleStart ranked.now.mill (charge_of charges.now) orders moves start.plan) }
 {
-    let orders = instance.orders();
-    let mut slabs = Vec::with_capacity(alloc, orders.len())?;
-    let mut loss = 0;
-    for (place, order) in orders.iter().enumerate() {
-        slabs.push(place as u16)?;
-        loss += charges.charge(order.weight);
+    let greedy = best_start(alloc, ranked, charges)?;
+    let (moved, _) = pair_moves(alloc, ranked, charges, greedy, moves)?;
+    if moved.loss == 0 {
+        return Ok(moved);
     }
-    Ok(Start {
-        plan: Plan::from_list(slabs),
-        loss,
-    })
+    let walked = walk(alloc, ranked, charges, moved, moves)?;
+    let (start, _) = pair_moves(alloc, ranked, charges, walked, moves)?;
+    Ok(start)
 }

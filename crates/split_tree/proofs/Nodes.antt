@@ -12,6 +12,7 @@ use Rattle.mill_model.specs.Rank.{Placed, rank, starts_class_in}
 use Rattle.mill_model.specs.declared.order.Order.{Order}
 use Rattle.mill_model.specs.Tree.{next_new, last_number}
 use Rattle.mill_model.specs.declared.order.TheConstants.{MAX_ORDERS}
+use Rattle.list_laws.proofs.Tests.{same-answer}
 use Rattle.mill_laws.proofs.Paths.{tree-bound, tree-length}
 use Rattle.mill_laws.proofs.TreeLaws.{each-leaf-is-a-plan}
 use Rattle.order_symmetry.specs.Ranked.{IsPlanOf, orders_of}
@@ -49,11 +50,6 @@ last-got (g ∷ h ∷ path) =
     let back : suc (suc (length path)) - 1 ≡ suc (suc (length path) - 1) = omega arith in
     rw back (last-got (h ∷ path))
 
-iff-same : (a b : Bool) → IsTrue a ↔ (b ≡ true) → a ≡ b
-iff-same true b h = sym (h.0 refl)
-iff-same false true h = h.1 refl
-iff-same false false h = refl
-
 -- a new group stays legal with an order where the order is legal alone
 pub fits-new : (node : Node) (groups : List OpenSlab) → AreGroups node groups → (g : ℕ) →
     length groups ≤ g → (order : Order) (mill : Mill) → mill ≡ node.ranked.mill → (answer : Bool) →
@@ -62,7 +58,7 @@ pub fits-new : (node : Node) (groups : List OpenSlab) → AreGroups node groups 
 fits-new node groups is g l order mill same answer h =
     let none : group_of node g ≡ [] =
     slab-new g node.path (orders_of node.ranked) (omega (arith, is.count)) in
-    rw (none, ← same) (iff-same answer (legal mill (order ∷ [])) h)
+    rw (none, ← same) (same-answer answer (legal mill (order ∷ [])) h)
 
 -- within a class the path goes on from its last number
 pub least-within : (node : Node) (depth : ℕ) (starts : Bool) (number : ℕ) →

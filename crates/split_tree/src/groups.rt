@@ -1,4 +1,4 @@
-ghost use Rattle.std.specs.Prelude.{◌≡◌, ◌≤◌, length, IfOk};
+ghost use Rattle.std.specs.Prelude.{◌≡◌, ◌≤◌, length, OnErr, OnOk};
 ghost use Rattle.slab_rules.specs.OpenSlab.{IsWithinBounds, joined};
 ghost use Rattle.split_tree.specs.Groups.{slab_at, with_order};
 
@@ -6,7 +6,7 @@ use mill_model::{Order, OutOfMemory};
 use slab_rules::OpenSlab;
 
 /// The slab of a number takes an order. The number behind the last one is that of a new slab, which
-/// begins as the empty one.
+/// begins as the empty one. Only a new slab takes memory.
 pub fn join_group(
     groups: &mut Vec<OpenSlab>,
     empty: &OpenSlab,
@@ -15,8 +15,10 @@ pub fn join_group(
 ) -> Result<(), OutOfMemory>
     requires number { group ≤ length groups.old.items }
     requires fits { IsWithinBounds (joined (slab_at empty.now groups.old.items group) order) }
-    ensures { IfOk result (λ _.
-        groups.new.items ≡ with_order empty.now groups.old.items group order) }
+    ensures joined { OnOk result
+        (groups.new.items ≡ with_order empty.now groups.old.items group order) }
+    ensures unchanged { OnErr result (groups.new.items ≡ groups.old.items) }
+    ensures wants_memory { OnErr result (length groups.old.items ≡ group) }
 {
     if let Some(slab) = groups.get_mut(group as usize) {
         slab.join(order);

@@ -2,13 +2,13 @@
 use Rattle.std.proofs.Common.{ℕ, ◌+◌, ◌<◌, ◌≤◌, ◌^◌, ◌≡◌, true, List, [], ◌∷◌, ◌++◌, length}
 use Rattle.std.proofs.Common.{reverse, refl, sym, ap, subst, ◌∙◌, arith, get_or, append-nil}
 use Rattle.std.proofs.Common.{ltb-true, length-append}
-use Rattle.std.proofs.lemmas.List.{length-map, length-reverse}
+use Rattle.std.proofs.lemmas.List.{length-reverse}
 use Rattle.std.proofs.lemmas.List.Elements.{All-from_recursion}
 use Rattle.std.specs.List.{AllByRecursion, list_all}
 use Rattle.mill_model.specs.Instance.{Problem, mill_of}
 use Rattle.mill_model.specs.Log.{Task, sound, recorded, names_settled, split_children, Refutes}
 use Rattle.mill_model.specs.Plan.{NoneLosesLess}
-use Rattle.mill_model.specs.Rank.{rank, ranked_orders}
+use Rattle.mill_model.specs.Rank.{ranked_orders}
 use Rattle.list_laws.specs.Sets.{same_list, times}
 use Rattle.mill_model.specs.Size.{enough}
 use Rattle.mill_model.specs.declared.closing.Closing.TheVariants.{Split}
@@ -20,7 +20,8 @@ use Rattle.list_laws.proofs.Times.{times-append}
 use Rattle.mill_laws.proofs.LogLaws.{refuted-loss-bounds}
 use Rattle.mill_laws.proofs.Merged.{names-left}
 use Rattle.list_laws.proofs.Among.{each-weaker}
-use Rattle.mill_laws.proofs.Ranked.{rank-length}
+use Rattle.mill_laws.proofs.Ranked.{ranked-count}
+use Rattle.mill_model.proofs.Records.{recorded-length}
 use Rattle.mill_laws.proofs.Thrift.{run-size}
 use Rattle.mill_laws.proofs.TreeLaws.{tree-has-at-most}
 use Rattle.refute_log.proofs.Rises.{rises-front}
@@ -31,13 +32,7 @@ use Rattle.tree_search.proofs.Lists.{times-reverse}
 use Rattle.mill_model.specs.Charges.{ChargeTable}
 use Rattle.mill_model.specs.Log.{task_of}
 use Rattle.mill_model.specs.Charges.{charge_of}
-
-pub ranked-count : (orders : List Order) → length (ranked_orders orders) ≡ length orders
-ranked-count orders = length-map (rank orders) (λ p. p.order) ∙ rank-length 0 orders
-
-length-recorded : (log : List Entry) → length (recorded log) ≡ length log
-length-recorded [] = refl
-length-recorded (e ∷ log) = omega (arith, length-recorded log)
+use Rattle.mill_model.specs.declared.limits.TheConstants.{MAX_NODES}
 
 -- a record that names no other path names what any log settles
 each-named : (log : List Entry) →
@@ -66,7 +61,7 @@ module _ (task : Task) (orders : List Order) (from : ℕ) (best : Start) (log : 
         run-size task log coming s.conserved (λ path. true) thrifty,
         tree-has-at-most task (λ path. true),
         length-append (recorded log) coming,
-        length-recorded log,
+        recorded-length log,
       )
     where
       thrifty : (path : List ℕ) → Has path Split log →
@@ -106,7 +101,8 @@ searched-run Kept task orders from best waiting closed h = record {
 
 module _ (Kept : List Entry → Type 0) (problem : Problem) (charges : ChargeTable) (from : ℕ)
     (best : Start) (waiting : List (List ℕ)) (closed : ℕ)
-    (h : HasSearched Kept (task_of problem (charge_of charges)) problem.orders from best waiting closed) where
+    (h : HasSearched Kept (task_of problem (charge_of charges)) problem.orders from best waiting
+    closed) where
   -- where no path waits, the records refute what the best plan loses,
   pub none-waits : waiting ≡ [] → Refutes (task_of problem (charge_of charges)) best.loss h.log
   none-waits none =
@@ -136,7 +132,7 @@ module _ (Kept : List Entry → Type 0) (problem : Problem) (charges : ChargeTab
 
   -- the records are a log
   pub searched-log : (count : ℕ) → count < 2 ^ 16 →
-      count ≡ length (ranked_orders problem.orders) → closed ≤ 1000000000 →
+      count ≡ length (ranked_orders problem.orders) → closed ≤ MAX_NODES →
       IsLog (record { orders = count; entries = h.log })
   searched-log count few is most = record {
     few_orders = few;

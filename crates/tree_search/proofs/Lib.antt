@@ -2,5 +2,5 @@ pub mod Lists
 pub mod Turns
 pub mod Closed
 pub mod Leaves
-pub mod Steps
+pub mod ClosedByNode
 pub mod Ended

@@ -13,6 +13,7 @@ use Rattle.mill_model.specs.declared.closing.Closing.TheVariants.{Split, Leaf, P
 use Rattle.list_laws.proofs.Among.{Among, Among-append_left, Among-append_right, Among-unappend}
 use Rattle.list_laws.proofs.Among.{Among-unmap, Among-unfilter, all-among, all-from, below-lt}
 use Rattle.list_laws.proofs.Among.{each-at, each-append}
+use Rattle.mill_laws.proofs.Paths.{left-open-goes-on}
 use Rattle.refute_log.specs.Rising.{comes_before, rises}
 use Rattle.refute_log.proofs.Order.{before-child, before-trans, head-less, head-same}
 use Rattle.tree_search.specs.Turns.{GoesBefore, ComeInTurn}
@@ -77,16 +78,6 @@ pushed-turn path test (suc n) =
 
 -- What a closed path leaves open.
 
-opens-longer : (task : Task) (path child : List ℕ) (closing : Closing) →
-    Among child (left_open task path closing) → (g : ℕ) × (child ≡ path ++ g ∷ [])
-opens-longer task path child Split i =
-    let r = Among-unmap (λ g. path ++ g ∷ []) child
-    (filter (may_go_on task.mill task.ranked path) (below (suc (next_new path)))) i in
-    (r.0, r.2)
-opens-longer task path child Leaf i = absurd i
-opens-longer task path child (Priced prices) i = absurd i
-opens-longer task path child (Dominated other) i = absurd i
-
 opens-turn : (task : Task) (path : List ℕ) (closing : Closing) →
     ComeInTurn (left_open task path closing)
 opens-turn task path Split =
@@ -100,7 +91,7 @@ pub closed-turn : (task : Task) (path : List ℕ) (closing : Closing) (later : L
     ComeInTurn (path ∷ later) → ComeInTurn (left_open task path closing ++ later)
 closed-turn task path closing later h =
     turn-append (left_open task path closing) later (opens-turn task path closing) h.1
-    (λ p q i j. let r = opens-longer task path p closing i in
+    (λ p q i j. let r = left-open-goes-on task path p closing i in
     rw r.1 (goes-longer path (r.0 ∷ []) q (each-at (GoesBefore path) q later h.0 j)))
 
 -- and behind what comes before the path
@@ -112,7 +103,7 @@ closed-rises task path closing [] later h turns =
     and_from (list_all (comes_before path) (opened ++ later)) (rises (opened ++ later))
     (all-from (comes_before path) (opened ++ later) (λ q i.
     elim (Among-unappend q opened later i) [
-      | inl j ↦ (let r = opens-longer task path q closing j in rw r.1 (before-child path r.0))
+      | inl j ↦ (let r = left-open-goes-on task path q closing j in rw r.1 (before-child path r.0))
       | inr j ↦ goes-itself path q (each-at (GoesBefore path) q later turns.0 j)
     ]))
     (turn-rises (opened ++ later) (closed-turn task path closing later turns))
@@ -131,7 +122,7 @@ closed-rises task path closing (p ∷ done) later h turns =
       | inl j ↦ before q (Among-append_left q done (path ∷ later) j)
       | inr (inl e) ↦ rw e path_before
       | inr (inr j) ↦ elim (Among-unappend q opened later j) [
-        | inl k ↦ (let r = opens-longer task path q closing k in
+        | inl k ↦ (let r = left-open-goes-on task path q closing k in
             before-trans p path q path_before (rw r.1 (before-child path r.0)))
         | inr k ↦ before q (Among-append_right q done (path ∷ later) (inr k))
       ]

@@ -42,7 +42,8 @@ fn keep_leaf(
     ensures plan { OnOk result (
         IsStartOf instance.now (charge_of charges.now) best.new) }
     ensures no_worse { OnOk result (best.new.loss ≤ best.old.loss) }
-    ensures here { OnOk result (best.new.loss ≤ loss (task_of instance.now (charge_of charges.now)).charge
+    ensures here { OnOk result (best.new.loss
+        ≤ loss (task_of instance.now (charge_of charges.now)).charge
         node.now.path (task_of instance.now (charge_of charges.now)).ranked) }
 {
     let loss = node.groups_loss(charges);

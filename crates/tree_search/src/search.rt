@@ -7,6 +7,7 @@ ghost use Rattle.mill_model.specs.Log.{Refutes, task_of};
 ghost use Rattle.mill_model.specs.Plan.{NoneLosesLess};
 ghost use Rattle.mill_model.specs.Size.{enough};
 ghost use Rattle.mill_model.specs.declared.closing.Entry.{Entry};
+ghost use Rattle.mill_model.specs.declared.limits.TheConstants.{MAX_NODES};
 ghost use Rattle.order_symmetry.specs.Ranked.{IsRankOf};
 ghost use Rattle.refute_log.specs.Logged.{IsLog};
 ghost use Rattle.tree_search.specs.Search.{HasSearched, IsRun};
@@ -105,7 +106,8 @@ pub fn search_tree(
     ensures budget { IfOk result (λ found. found.closed ≤ nodes) }
     // No path of the tree is passed over: there are sound records of the closed ones.
     ensures run { IfOk result (λ found. (log : List Entry) × IsRun
-        (task_of instance.now (charge_of charges.now)) found.best.loss found.waiting.items found.closed log) }
+        (task_of instance.now (charge_of charges.now))
+        found.best.loss found.waiting.items found.closed log) }
 
     // Where all paths are closed, no legal plan loses less.
     ensures least { IfOk result (λ found. found.waiting.items ≡ [] →
@@ -141,20 +143,22 @@ pub fn prove_tree(
     requires ranked { IsRankOf instance.now ranked.now }
     requires reach { Reaches charges.now (mill_of instance.now) }
     requires start { IsStartOf instance.now (charge_of charges.now) start }
-    requires few { nodes ≤ 1000000000 }
+    requires few { nodes ≤ MAX_NODES }
     ensures plan { IfOk result (λ proved.
         IsStartOf instance.now (charge_of charges.now) proved.found.best) }
     ensures no_worse { IfOk result (λ proved. proved.found.best.loss ≤ start.loss) }
     ensures budget { IfOk result (λ proved. proved.found.closed ≤ nodes) }
     // No path of the tree is passed over: the log has sound records of the closed ones.
     ensures run { IfOk result (λ proved. IsRun
-        (task_of instance.now (charge_of charges.now)) proved.found.best.loss proved.found.waiting.items
+        (task_of instance.now (charge_of charges.now))
+        proved.found.best.loss proved.found.waiting.items
         proved.found.closed proved.log.entries) }
 
     // Where all paths are closed, the log refutes the best plan's loss, and no legal plan loses
     // less.
     ensures refutes { IfOk result (λ proved. proved.found.waiting.items ≡ [] →
-        Refutes (task_of instance.now (charge_of charges.now)) proved.found.best.loss proved.log.entries) }
+        Refutes (task_of instance.now (charge_of charges.now))
+        proved.found.best.loss proved.log.entries) }
     ensures least { IfOk result (λ proved. proved.found.waiting.items ≡ [] →
         NoneLosesLess (mill_of instance.now) (charge_of charges.now)
         instance.now.orders proved.found.best.loss) }

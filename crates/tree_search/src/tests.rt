@@ -7,6 +7,7 @@ ghost use Rattle.order_symmetry.specs.Ranked.{IsRankOf};
 ghost use Rattle.mill_model.specs.Best.{IsStartOf};
 ghost use Rattle.mill_model.specs.Charges.{Reaches, charge_of};
 ghost use Rattle.mill_model.specs.Instance.{mill_of};
+ghost use Rattle.mill_model.specs.declared.limits.TheConstants.{MAX_NODES};
 
 use super::*;
 use mill_model::{Charges, Instance, Order, OutOfMemory, Path, Start};
@@ -107,7 +108,7 @@ fn found(
 // The text of the records.
 fn records(alloc: Global, orders: &[(u32, u16)], nodes: u64) -> Result<Option<Vec<u8>>, OutOfMemory>
     requires orders { length orders.now ≤ MAX_ORDERS }
-    requires nodes { nodes ≤ 1000000000 }
+    requires nodes { nodes ≤ MAX_NODES }
 {
     let Some(setting) = Setting::of(alloc, orders)? else {
         return Ok(None);

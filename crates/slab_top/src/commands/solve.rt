@@ -11,7 +11,7 @@ use solve_answer::solve;
 use std::alloc::Global;
 
 /// Answers an instance: with a best plan, or where the budget is spent first with a legal one that
-/// loses no more than each order alone.
+/// loses no more than a plan that the moves may leave.
 pub fn serve(alloc: Global, job: Job, input: &[u8]) -> Result<Outcome, Stop>
     requires in_range { IsInRange job }
     ensures reply { IsReply (Solves job input.now) result }

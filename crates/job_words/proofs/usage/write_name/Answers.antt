@@ -3,6 +3,7 @@ use Rattle.std.proofs.lemmas.Result.{on_err_weaker}
 use Rattle.line_text.proofs.Printed.{on-err}
 use Rattle.job_words.proofs.Pieces.{front-behind, front-first}
 use Rattle.std.proofs.KnownBytes.{Appends-trans}
+use Rattle.mill_io.proofs.Fronts.{two-writes-append-to-both}
 use Rattle.job_words.proofs.usage.write_name.Goals as goal
 
 pub returns-in_err-write_all-clause-err : goal.returns-in_err-write_all-clause-err
@@ -33,3 +34,17 @@ returns-clause-err g c =
     ) refl)
     (Appends-trans _ _ _ _ _ c.in_ok-write_all.ensures.ok c.in_ok-write_all-2.ensures.ok))
     c.write_all-3.ensures.err
+
+-- What was written before goes on in what is written next.
+
+pub returns-in_err-write_all-2-clause-held : goal.returns-in_err-write_all-2-clause-held
+returns-in_err-write_all-2-clause-held g c =
+    two-writes-append-to-both _ _ _ _ _ _ c.in_ok-write_all.ensures.held
+    c.in_err-write_all-2.ensures.held
+
+pub returns-clause-held : goal.returns-clause-held
+returns-clause-held g c =
+    two-writes-append-to-both _ _ _ _ _ _
+    (two-writes-append-to-both _ _ _ _ _ _ c.in_ok-write_all.ensures.held
+    c.in_ok-write_all-2.ensures.held)
+    c.write_all-3.ensures.held

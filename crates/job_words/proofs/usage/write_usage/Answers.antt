@@ -4,6 +4,7 @@ use Rattle.std.proofs.KnownBytes.{Appends-trans}
 use Rattle.std.proofs.lemmas.Result.{on_ok_weaker, on_err_weaker}
 use Rattle.line_text.proofs.Printed.{on-err}
 use Rattle.job_words.proofs.Pieces.{front-behind, front-first}
+use Rattle.mill_io.proofs.Fronts.{two-writes-append-to-both}
 use Rattle.job_words.proofs.usage.write_usage.Goals as goal
 
 -- the parts of the usage line
@@ -53,3 +54,26 @@ returns-clause-err g c =
     c.in_ok-write_names-2.ensures.ok)
     c.in_ok-write_names-3.ensures.ok))
     c.write_all.ensures.err
+
+-- What the parts before wrote goes on in what the next one writes.
+
+pub returns-in_err-write_names-2-clause-held : goal.returns-in_err-write_names-2-clause-held
+returns-in_err-write_names-2-clause-held g c =
+    two-writes-append-to-both _ _ _ _ _ _ c.in_ok-write_names.ensures.held
+    c.in_err-write_names-2.ensures.held
+
+pub returns-in_err-write_names-3-clause-held : goal.returns-in_err-write_names-3-clause-held
+returns-in_err-write_names-3-clause-held g c =
+    two-writes-append-to-both _ _ _ _ _ _
+    (two-writes-append-to-both _ _ _ _ _ _ c.in_ok-write_names.ensures.held
+    c.in_ok-write_names-2.ensures.held)
+    c.in_err-write_names-3.ensures.held
+
+pub returns-clause-held : goal.returns-clause-held
+returns-clause-held g c =
+    two-writes-append-to-both _ _ _ _ _ _
+    (two-writes-append-to-both _ _ _ _ _ _
+    (two-writes-append-to-both _ _ _ _ _ _ c.in_ok-write_names.ensures.held
+    c.in_ok-write_names-2.ensures.held)
+    c.in_ok-write_names-3.ensures.held)
+    c.write_all.ensures.held

@@ -1,5 +1,5 @@
 use Rattle.std.proofs.Common.{get_or, pos, SFits, w64, to_z-of_z, rules}
-use Rattle.least_slacks.proofs.ItemsLetIn.{table-adds}
+use Rattle.set_minima.proofs.WholeTables.{table-adds}
 use Rattle.least_slacks.proofs.best_prices.add_item.Goals as goal
 
 pub add_order-requires-clause-price : goal.add_order-requires-clause-price

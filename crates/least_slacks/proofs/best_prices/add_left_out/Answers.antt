@@ -1,10 +1,11 @@
 -- Item by item: the table has the orders left out that stand before `t`, beside all others.
 use Rattle.std.proofs.Common.{◌≡◌, ◌+◌, ◌*◌, length, get_or, pos, arith, sym}
-use Rattle.least_slacks.specs.Cells.{cell}
+use Rattle.set_minima.specs.Cells.{cell}
 use Rattle.set_minima.specs.Joins.{all_places}
 use Rattle.least_slacks.specs.Later.{joined_to, others_of}
-use Rattle.least_slacks.proofs.CellNumbers.{near-wider}
-use Rattle.least_slacks.proofs.ItemsLetIn.{none-joined, all-joined, table-allowed, table-width}
+use Rattle.set_minima.proofs.CellNumbers.{near-wider}
+use Rattle.set_minima.proofs.WholeTables.{table-allowed, table-width}
+use Rattle.least_slacks.proofs.ItemsLetIn.{none-joined, all-joined}
 use Rattle.mill_model.specs.declared.prices.TheConstants.{MAX_PRICE}
 use Rattle.least_slacks.proofs.best_prices.add_left_out.Goals as goal
 

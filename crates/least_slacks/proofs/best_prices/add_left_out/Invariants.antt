@@ -1,5 +1,5 @@
 use Rattle.std.proofs.Common.{ℕ, ◌+◌, ◌*◌, List, length}
-use Rattle.least_slacks.specs.Cells.{cell, AreNear}
+use Rattle.set_minima.specs.Cells.{cell, AreNear}
 use Rattle.least_slacks.specs.Later.{joined_to, others_of, HaveSame, IsTableOf}
 use Rattle.mill_model.specs.declared.prices.TheConstants.{MAX_PRICE}
 use Rattle.least_slacks.proofs.best_prices.add_left_out.Given as goal

@@ -2,9 +2,9 @@
 use Rattle.std.proofs.Common.{◌≡◌, ℕ, ◌+◌, ◌-◌, ◌≤◌, ◌∙◌, ap, refl, inl, inr, get_or, pos, SFits}
 use Rattle.std.proofs.Common.{w64, to_z-of_z, rules, arith}
 use Rattle.std.proofs.lemmas.Bool.{cases_lt}
-use Rattle.least_slacks.specs.Cells.{found}
-use Rattle.least_slacks.proofs.CellNumbers.{near-wider}
-use Rattle.least_slacks.proofs.OneCell.{entry-done, entry-old, entry-near, light-stays}
+use Rattle.set_minima.specs.Cells.{found}
+use Rattle.set_minima.proofs.CellNumbers.{near-wider}
+use Rattle.set_minima.proofs.OneCell.{entry-done, entry-old, entry-near, light-stays}
 use Rattle.mill_model.specs.declared.prices.TheConstants.{MAX_PRICE}
 use Rattle.least_slacks.proofs.best_prices.add_order.Goals as goal
 

@@ -1,6 +1,6 @@
 use Rattle.std.proofs.Common.{◌≡◌, ℕ, ◌+◌, ◌-◌, ◌<◌, ◌≤◌, leb, cond, length, slice_index_or, pos}
 use Rattle.set_minima.specs.Packs.{better, with_price}
-use Rattle.least_slacks.specs.Cells.{cell, AreNear}
+use Rattle.set_minima.specs.Cells.{cell, AreNear}
 use Rattle.mill_model.specs.declared.prices.TheConstants.{MAX_PRICE}
 use Rattle.least_slacks.proofs.best_prices.add_order.Given as goal
 

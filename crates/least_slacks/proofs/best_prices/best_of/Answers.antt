@@ -3,9 +3,9 @@ use Rattle.std.proofs.Common.{rules}
 use Rattle.std.proofs.lemmas.Int.{ints}
 use Rattle.std.specs.Int.{int_max}
 use Rattle.set_minima.specs.Packs.{better}
-use Rattle.least_slacks.specs.Cells.{found, IsNear}
-use Rattle.least_slacks.proofs.CellNumbers.{found-max, found-plus, near-max, near-plus, near-fits}
-use Rattle.least_slacks.proofs.CellNumbers.{near-wider, fits-64}
+use Rattle.set_minima.specs.Cells.{found, IsNear}
+use Rattle.set_minima.proofs.CellNumbers.{found-max, found-plus, near-max, near-plus, near-fits}
+use Rattle.set_minima.proofs.CellNumbers.{near-wider, fits-64}
 use Rattle.mill_model.specs.declared.prices.TheConstants.{MAX_PRICE}
 use Rattle.least_slacks.proofs.best_prices.best_of.Goals as goal
 

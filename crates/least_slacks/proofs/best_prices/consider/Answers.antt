@@ -1,10 +1,11 @@
 use Rattle.std.proofs.Common.{◌≡◌, ◌+◌, true, false, length, sym, ◌∙◌}
 use Rattle.list_laws.specs.Sets.{holds}
 use Rattle.set_minima.specs.Packs.{colour_at}
-use Rattle.least_slacks.specs.Cells.{cell}
+use Rattle.set_minima.specs.Cells.{cell}
 use Rattle.least_slacks.specs.Items.{item_at}
 use Rattle.least_slacks.specs.Later.{joined_to}
-use Rattle.least_slacks.proofs.ItemsLetIn.{next-joined, other-joined, table-allowed}
+use Rattle.set_minima.proofs.WholeTables.{table-allowed}
+use Rattle.least_slacks.proofs.ItemsLetIn.{next-joined, other-joined}
 use Rattle.least_slacks.proofs.best_prices.consider.Goals as goal
 
 pub returns-then-has_colour-clause-best : goal.returns-then-has_colour-clause-best

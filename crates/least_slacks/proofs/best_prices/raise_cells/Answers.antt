@@ -5,9 +5,9 @@ use Rattle.std.proofs.Common.{leb-false, length, eqb, eqb-true}
 use Rattle.std.proofs.lemmas.List.{get_or-set_same, get_or-set_other}
 use Rattle.std.proofs.lemmas.Bool.{cases_lt}
 use Rattle.list_laws.proofs.Tests.{either}
-use Rattle.least_slacks.specs.Cells.{found}
-use Rattle.least_slacks.proofs.CellNumbers.{near-wider}
-use Rattle.least_slacks.proofs.OneCell.{differ, raised-done, raised-other}
+use Rattle.set_minima.specs.Cells.{found}
+use Rattle.set_minima.proofs.CellNumbers.{near-wider}
+use Rattle.set_minima.proofs.OneCell.{differ, raised-done, raised-other}
 use Rattle.mill_model.specs.declared.prices.TheConstants.{MAX_PRICE}
 use Rattle.least_slacks.proofs.best_prices.raise_cells.Goals as goal
 

@@ -1,9 +1,10 @@
 -- From the last layer down: a layer is bettered by the one below, which lacks the colour so far.
-use Rattle.std.proofs.Common.{◌≡◌, ℕ, ◌+◌, ◌-◌, ◌*◌, ◌≤◌, ◌∙◌, length, get_or, pos, arith, inl}
+use Rattle.std.proofs.Common.{◌≡◌, ℕ, suc, ◌+◌, ◌-◌, ◌*◌, ◌≤◌, ◌∙◌, length, get_or, pos, arith, inl}
 use Rattle.std.proofs.Common.{mul-le-mul_right}
-use Rattle.least_slacks.proofs.CellNumbers.{near-wider}
-use Rattle.least_slacks.proofs.LayersRaised.{done-raised, done-last}
-use Rattle.mill_model.specs.Limits.{all_prices}
+use Rattle.set_minima.proofs.CellNumbers.{near-wider}
+use Rattle.set_minima.proofs.LayersRaised.{done-raised, done-last}
+use Rattle.least_slacks.specs.Later.{let_to}
+use Rattle.mill_model.specs.declared.prices.TheConstants.{MAX_PRICE}
 use Rattle.least_slacks.proofs.colour_layers.add_colour.Goals as goal
 
 pub raise_layer-requires-clause-inside : goal.raise_layer-requires-clause-inside
@@ -20,18 +21,36 @@ raise_layer-requires-clause-inside c =
         let l : (t + 1) * b ≤ layers * b = mul-le-mul_right b h in
         rw e (omega arith)
 
+-- what one layer more adds to a bound, and that there are at most nine
+one-more : (n d e x : ℕ) → e ≡ suc d → n + d * x + x ≤ n + e * x
+one-more n d e x q = rw q (omega arith)
+
+nine : (n d x : ℕ) → d ≤ 9 → n + d * x ≤ n + 9 * x
+nine n d x h = let m : d * x ≤ 9 * x = mul-le-mul_right x h in omega arith
+
 pub raise_layer-requires-clause-near : goal.raise_layer-requires-clause-near
 raise_layer-requires-clause-near c l =
-    near-wider (200000000000000000 + (c.args.layers - c.loop-t.t) * all_prices)
-    288230376151711744 (get_or c.loop-t.tables l (pos 0)) (omega (arith, c.requires.layers))
+    let x = (c.args.run.1 - c.args.run.0) * MAX_PRICE in
+    let m = nine 200000000000000000 (c.args.layers - c.loop-t.t) x
+    (omega (arith, c.requires.layers)) in
+    near-wider (200000000000000000 + (c.args.layers - c.loop-t.t) * x) 288230376151711744
+    (get_or c.loop-t.tables l (pos 0))
+    (omega (
+      arith,
+      m,
+      c.requires.ends,
+      c.requires.later.few,
+      c.requires.later.sorted.count,
+    ))
     (c.loop-t.invariant.near 200000000000000000 c.requires.near l)
 
 pub loop-t-init : goal.loop-t-init
 loop-t-init c = record {
-  done = λ out colour run layered s a b. absurd (omega arith);
+  done = λ letting colour run layered s a b. absurd (omega arith);
   old = λ i h. λ j. get_or c.args.tables.now i (pos 0);
   near = λ n h l.
-      near-wider n (n + (c.args.layers - c.args.layers) * all_prices)
+      near-wider n
+      (n + (c.args.layers - c.args.layers) * ((c.args.run.1 - c.args.run.0) * MAX_PRICE))
       (get_or c.args.tables.now l (pos 0)) (omega arith) (h l);
 }
 
@@ -42,36 +61,41 @@ loop-t-preserved c =
     let other = rw w at c.raise_layer.ensures.other in
     let t = c.loop-t.t - 1 in
     record {
-      done = λ out colour run layered.
+      done = λ letting colour run layered.
           done-raised c.args.later.now.rest.now c.args.later.now.prices.now
-          c.args.later.now.items.now out c.args.run.0
-          c.args.run.1 colour c.args.layers (length c.args.table.now) run
+          (let_to c.args.later.now letting c.args.run.0)
+          (let_to c.args.later.now letting c.args.run.1)
+          colour c.args.layers (length c.args.table.now) run.next
           c.args.tables.now layered c.loop-t.t t (omega (arith, c.loop-t-test.true))
           (omega (arith, c.loop-t-test.true)) (omega (arith, c.loop-t.auto.t)) c.loop-t.tables
-          c.raise_layer.new.tables (c.loop-t.invariant.done out colour run layered)
-          c.loop-t.invariant.old (λ k. best out colour k run) other;
+          c.raise_layer.new.tables (c.loop-t.invariant.done letting colour run layered)
+          c.loop-t.invariant.old (λ k. best letting colour k run) other;
       old = λ i h.
           let m : t * length c.args.table.now ≤ c.loop-t.t * length c.args.table.now =
           mul-le-mul_right (length c.args.table.now) (omega arith) in
           other i (inl h) ∙ c.loop-t.invariant.old i (omega arith);
       near = λ n h l.
-          near-wider (n + (c.args.layers - c.loop-t.t) * all_prices + all_prices)
-          (n + (c.args.layers - t) * all_prices) (get_or c.raise_layer.new.tables l (pos 0))
-          (omega (arith, c.loop-t-test.true, c.loop-t.auto.t))
-          (c.raise_layer.ensures.near (n + (c.args.layers - c.loop-t.t) * all_prices)
-          (c.loop-t.invariant.near n h) l);
+          (let x = (c.args.run.1 - c.args.run.0) * MAX_PRICE in
+          near-wider (n + (c.args.layers - c.loop-t.t) * x + x) (n + (c.args.layers - t) * x)
+          (get_or c.raise_layer.new.tables l (pos 0))
+          (one-more n (c.args.layers - c.loop-t.t) (c.args.layers - t) x
+          (omega (arith, c.loop-t-test.true, c.loop-t.auto.t)))
+          (c.raise_layer.ensures.near (n + (c.args.layers - c.loop-t.t) * x)
+          (c.loop-t.invariant.near n h) l));
     }
 
 pub returns-clause-best : goal.returns-clause-best
-returns-clause-best c out colour run layered =
-    done-last c.args.later.now.rest.now c.args.later.now.prices.now c.args.later.now.items.now out
-    c.args.run.0 c.args.run.1
-    colour c.args.layers (length c.args.table.now) run c.args.tables.now layered
+returns-clause-best c letting colour run layered =
+    done-last c.args.later.now.rest.now c.args.later.now.prices.now
+    (let_to c.args.later.now letting c.args.run.0) (let_to c.args.later.now letting c.args.run.1)
+    colour c.args.layers (length c.args.table.now) run.next c.args.tables.now layered
     c.loop-t.tables c.loop-t.t (omega (arith, c.loop-t-test.false))
-    (c.loop-t.invariant.done out colour run layered) c.loop-t.invariant.old
+    (c.loop-t.invariant.done letting colour run layered) c.loop-t.invariant.old
 
 pub returns-clause-near : goal.returns-clause-near
 returns-clause-near c n h l =
-    near-wider (n + (c.args.layers - c.loop-t.t) * all_prices) (n + (9 * all_prices))
-    (get_or c.loop-t.tables l (pos 0)) (omega (arith, c.requires.layers))
-    (c.loop-t.invariant.near n h l)
+    let x = (c.args.run.1 - c.args.run.0) * MAX_PRICE in
+    let m = nine n (c.args.layers - c.loop-t.t) x (omega (arith, c.requires.layers)) in
+    near-wider (n + (c.args.layers - c.loop-t.t) * x)
+    (n + (c.args.run.1 - c.args.run.0) * (9 * MAX_PRICE)) (get_or c.loop-t.tables l (pos 0))
+    (omega (arith, m)) (c.loop-t.invariant.near n h l)

@@ -1,12 +1,19 @@
--- Run by run: the layers have the orders of the runs before `at`.
-use Rattle.std.proofs.Common.{◌≡◌, [], ◌+◌, ◌*◌, length, get_or, pos, arith}
-use Rattle.least_slacks.specs.Cells.{cell}
-use Rattle.least_slacks.specs.Items.{IsStretch, no_place}
-use Rattle.least_slacks.specs.Later.{let_to, others_of}
-use Rattle.least_slacks.proofs.CellNumbers.{near-wider}
-use Rattle.least_slacks.proofs.ItemsLetIn.{stretch-from, before-end, none-let_in, all-let_in}
-use Rattle.least_slacks.proofs.ItemsLetIn.{table-allowed}
+-- Run by run: the layers have the orders that are let in with the runs before `at`.
+use Rattle.std.proofs.Common.{◌≡◌, [], ℕ, ◌+◌, ◌-◌, ◌*◌, length, get_or, pos, arith}
+use Rattle.std.proofs.Common.{Bool, true, false, not, cond, refl, map, List}
+use Rattle.list_laws.specs.Sets.{holds}
 use Rattle.mill_model.specs.Limits.{all_prices}
+use Rattle.mill_model.specs.declared.order.Order.{Order}
+use Rattle.mill_model.specs.declared.prices.TheConstants.{MAX_PRICE}
+use Rattle.set_minima.specs.Packs.{nobody, colour_at}
+use Rattle.set_minima.specs.Cells.{cell}
+use Rattle.least_slacks.specs.Items.{IsStretch}
+use Rattle.least_slacks.specs.Later.{let_to, others_of}
+use Rattle.least_slacks.specs.Parts.{letting_of, out_of}
+use Rattle.set_minima.proofs.CellNumbers.{near-wider}
+use Rattle.least_slacks.proofs.ColoursCounted.{value-held}
+use Rattle.least_slacks.proofs.ItemsLetIn.{stretch-from, before-end, none-let_in, all-let_in}
+use Rattle.set_minima.proofs.WholeTables.{table-allowed}
 use Rattle.least_slacks.proofs.colour_layers.add_colours.Goals as goal
 
 pub add_next-requires-clause-stretch : goal.add_next-requires-clause-stretch
@@ -18,25 +25,30 @@ add_next-requires-clause-stretch c =
     c.run_end-end.ensures.other
 
 pub loop-at-init : goal.loop-at-init
-loop-at-init c = record {
-  inside = omega arith;
-  border = λ h s b. absurd (omega arith);
-  best = λ p t b.
-      table-allowed c.args.later.now.rest.now c.args.later.now.prices.now no_place
-      (let_to c.args.later.now c.args.out.now 0) [] t
-      (length c.args.table.now) (λ l. cell c.args.tables.now (t * length c.args.table.now + l))
-      (λ i h. none-let_in c.args.later.now.rest.now c.args.later.now.items.now c.args.out.now i)
-      (p t b);
-  near = λ l. near-wider 0 (0 * (9 * all_prices))
-      (get_or c.args.tables.now l (pos 0)) (omega arith) (c.requires.near l);
-}
+loop-at-init c =
+    let rest = c.args.later.now.rest.now in
+    let letting = letting_of rest c.args.part.now in
+    record {
+      inside = omega arith;
+      border = λ h s b. absurd (omega arith);
+      best = λ p t b.
+          table-allowed rest c.args.later.now.prices.now
+          (others_of c.args.later.now letting.before) (let_to c.args.later.now letting 0) [] t
+          (length c.args.table.now)
+          (λ l. cell c.args.tables.now (t * length c.args.table.now + l))
+          (λ i h. none-let_in rest c.args.later.now.items.now letting i)
+          (p t b);
+      near = λ n h l.
+          near-wider n (n + 0 * (9 * MAX_PRICE))
+          (get_or c.args.tables.now l (pos 0)) (omega arith) (h l);
+    }
 
 pub add_next-requires-clause-near : goal.add_next-requires-clause-near
 add_next-requires-clause-near c l =
-    near-wider (c.loop-at.at * (9 * all_prices)) 200000000000000000
+    near-wider (100000000000000000 + c.loop-at.at * (9 * MAX_PRICE)) 200000000000000000
     (get_or c.loop-at.tables l (pos 0))
     (omega (arith, c.requires.later.few, c.requires.later.sorted.count, c.loop-at-test.true))
-    (c.loop-at.invariant.near l)
+    (c.loop-at.invariant.near 100000000000000000 c.requires.near l)
 
 pub loop-at-preserved : goal.loop-at-preserved
 loop-at-preserved c =
@@ -52,28 +64,51 @@ loop-at-preserved c =
       inside = c.run_end-end.ensures.ends;
       border = before-end c.args.later.now.items.now c.loop-at.at c.run_end-end.result run;
       best = λ p. best (c.loop-at.invariant.best p);
-      near = λ l.
-          near-wider (c.loop-at.at * (9 * all_prices) + (9 * all_prices))
-          (c.run_end-end.result * (9 * all_prices))
+      near = λ n h l.
+          near-wider (n + c.loop-at.at * (9 * MAX_PRICE)
+          + (c.run_end-end.result - c.loop-at.at) * (9 * MAX_PRICE))
+          (n + c.run_end-end.result * (9 * MAX_PRICE))
           (get_or c.add_next.new.tables l (pos 0)) (omega (arith, c.run_end-end.ensures.some))
-          (c.add_next.ensures.near (c.loop-at.at * (9 * all_prices))
-          c.loop-at.invariant.near l);
+          (c.add_next.ensures.near (n + c.loop-at.at * (9 * MAX_PRICE))
+          (c.loop-at.invariant.near n h) l);
     }
 
 pub returns-clause-best : goal.returns-clause-best
 returns-clause-best c p t b =
-    table-allowed c.args.later.now.rest.now c.args.later.now.prices.now
-    (let_to c.args.later.now c.args.out.now c.loop-at.at)
-    (others_of c.args.later.now c.args.out.now) [] t (length c.args.table.now)
+    let rest = c.args.later.now.rest.now in
+    let part = c.args.part.now in
+    let letting = letting_of rest part in
+    table-allowed rest c.args.later.now.prices.now
+    (let_to c.args.later.now letting c.loop-at.at)
+    (others_of c.args.later.now letting.after) [] t (length c.args.table.now)
     (λ l. cell c.loop-at.tables (t * length c.args.table.now + l))
-    (λ i h. all-let_in c.args.later.now.rest.now c.args.later.now.items.now c.requires.later.sorted
-    c.args.out.now
-    c.loop-at.at i (omega (arith, c.loop-at-test.false)) h)
+    (λ i h. all-let_in rest c.args.later.now.items.now c.requires.later.sorted letting
+    c.loop-at.at i (omega (arith, c.loop-at-test.false)) h
+    (kept part.first (colour_at rest i) (map (λ (order : Order). order.colour) rest)
+    (out_of part.most part.whole.now) (out_of part.most part.keys.now)
+    (value-held (λ (order : Order). order.colour) rest i nobody h)
+    (c.requires.within (colour_at rest i))))
     (c.loop-at.invariant.best p t b)
+  where
+    -- what is not left out for the whole is not left out for the part
+    kept : (first : Bool) (x : ℕ) (all whole part : List ℕ) → holds x all ≡ true →
+        (holds x part ≡ true → holds x whole ≡ true) →
+        not (holds x (cond first all whole)) ≡ true → not (holds x part) ≡ true
+    kept true x all whole part a within h = absurd (go (holds x all) a h)
+      where
+        go : (b : Bool) → b ≡ true → not b ≡ true → ⊥
+        go true e h = cc
+        go false e h = cc
+    kept false x all whole part a within h = go (holds x part) (holds x whole) within h
+      where
+        go : (b d : Bool) → (b ≡ true → d ≡ true) → not d ≡ true → not b ≡ true
+        go true true f h = h
+        go true false f h = f refl
+        go false d f h = refl
 
 pub returns-clause-near : goal.returns-clause-near
-returns-clause-near c l =
-    near-wider (c.loop-at.at * (9 * all_prices)) 200000000000000000
+returns-clause-near c n h l =
+    near-wider (n + c.loop-at.at * (9 * MAX_PRICE)) (n + 9 * all_prices)
     (get_or c.loop-at.tables l (pos 0))
     (omega (arith, c.requires.later.few, c.requires.later.sorted.count, c.loop-at.invariant.inside))
-    (c.loop-at.invariant.near l)
+    (c.loop-at.invariant.near n h l)

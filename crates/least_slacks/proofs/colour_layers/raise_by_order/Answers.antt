@@ -1,6 +1,6 @@
 use Rattle.std.proofs.Common.{◌≡◌, ℕ, suc, ◌+◌, ◌-◌, ◌*◌, ◌≤◌, get_or, pos, arith, sym}
 use Rattle.std.proofs.Common.{SFits, w64, to_z-of_z, rules}
-use Rattle.least_slacks.specs.Cells.{cell}
+use Rattle.set_minima.specs.Cells.{cell}
 use Rattle.least_slacks.specs.Items.{item_at}
 use Rattle.least_slacks.proofs.ItemsLetIn.{layer-single}
 use Rattle.least_slacks.proofs.colour_layers.raise_by_order.Goals as goal
@@ -19,12 +19,12 @@ raise_cells-requires-clause-price c =
     simp to_z-of_z (c.requires.later.priced place)
 
 pub returns-clause-best : goal.returns-clause-best
-returns-clause-best c out colour k run below here =
+returns-clause-best c letting colour k run below here =
     let place = (item_at c.args.later.now.items.now c.args.at).place in
     let f : SFits w64 (get_or c.args.later.now.prices.now place (pos 0)) = search rules in
     let e = simp to_z-of_z at c.raise_cells.ensures.cells in
     layer-single c.args.later.now.rest.now c.args.later.now.prices.now c.args.later.now.items.now
-    c.requires.later.sorted c.requires.later.same out c.args.at colour k c.args.width
+    c.requires.later.sorted c.requires.later.same letting c.args.at colour k c.args.width
     c.requires.here run (λ l. cell c.args.tables.now ((c.args.t - 1) * c.args.width + l))
     (λ l. cell c.args.tables.now (c.args.t * c.args.width + l))
     (λ l. cell c.raise_cells.new.tables (c.args.t * c.args.width + l)) e below here

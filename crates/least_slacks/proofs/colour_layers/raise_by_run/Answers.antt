@@ -3,22 +3,22 @@ use Rattle.std.proofs.Common.{sym, ap, [], refl}
 use Rattle.std.proofs.Common.{◌∙◌, subst}
 use Rattle.set_minima.specs.Packs.{better, IsBest}
 use Rattle.set_minima.proofs.OneColour.{layer-start, layer-end}
-use Rattle.least_slacks.specs.Cells.{cell, found}
+use Rattle.set_minima.specs.Cells.{cell, found}
 use Rattle.least_slacks.specs.Items.{let_in}
-use Rattle.least_slacks.proofs.CellNumbers.{found-max}
-use Rattle.least_slacks.proofs.LayersRaised.{near-copied, near-layer}
-use Rattle.mill_model.specs.Limits.{all_prices}
+use Rattle.set_minima.proofs.CellNumbers.{found-max}
+use Rattle.set_minima.proofs.LayersRaised.{near-copied, near-layer}
+use Rattle.mill_model.specs.declared.prices.TheConstants.{MAX_PRICE}
 use Rattle.least_slacks.proofs.colour_layers.raise_by_run.Goals as goal
 
 pub returns-clause-best : goal.returns-clause-best
-returns-clause-best c out colour k run below here l b =
+returns-clause-best c letting colour k run below here l b =
     let width = length c.args.table.now in
     let n1 : length c.copy_layer.new.table ≡ width = c.copy_layer.auto.table in
     let n2 : length c.add_run.new.table ≡ length c.copy_layer.new.table = c.add_run.auto.table in
     let rest = c.args.later.now.rest.now in
     let prices = c.args.later.now.prices.now in
-    let before = let_in rest c.args.later.now.items.now out c.args.run.0 in
-    let after = let_in rest c.args.later.now.items.now out c.args.run.1 in
+    let before = let_in rest c.args.later.now.items.now letting c.args.run.0 in
+    let after = let_in rest c.args.later.now.items.now letting c.args.run.1 in
     let e : cell c.better_layer.new.tables (c.args.t * width + l)
     ≡ better (cell c.args.tables.now (c.args.t * width + l)) (cell c.add_run.new.table l) =
     ap found (c.better_layer.ensures.here l (omega arith))
@@ -30,7 +30,7 @@ returns-clause-best c out colour k run below here l b =
     subst (λ z. IsBest after [] (suc k) rest prices l z) (sym e)
     (layer-end rest before after [] colour run.next refl prices (suc k) l
     (cell c.args.tables.now (c.args.t * width + l)) (cell c.add_run.new.table l) (here l b)
-    (c.add_run.ensures.best out colour (suc k) run
+    (c.add_run.ensures.best letting colour (suc k) run
     (λ i q. layer-start rest before after [] colour run.next refl prices k i
     (cell c.copy_layer.new.table i) (copied i q)) l (omega arith)))
 
@@ -38,7 +38,8 @@ pub returns-clause-near : goal.returns-clause-near
 returns-clause-near c n h =
     let width = length c.args.table.now in
     let n1 : length c.copy_layer.new.table ≡ width = c.copy_layer.auto.table in
-    near-layer n (n + all_prices) (c.args.t * width) c.args.tables.now
+    near-layer n (n + (c.args.run.1 - c.args.run.0) * MAX_PRICE) (c.args.t * width)
+    c.args.tables.now
     c.better_layer.new.tables c.add_run.new.table (omega arith) h
     (c.add_run.ensures.near n (near-copied n ((c.args.t - 1) * width) c.args.tables.now
     c.copy_layer.new.table (λ l b. c.copy_layer.ensures l (omega arith)) h))

@@ -5,8 +5,8 @@ use Rattle.std.proofs.Common.{SFits, w64, to_z-of_z, to_z, rules, arith, sym, su
 use Rattle.set_minima.specs.Packs.{IsTop}
 use Rattle.set_minima.specs.Joins.{gain, Packed}
 use Rattle.set_minima.proofs.Gains.{gain-more}
-use Rattle.least_slacks.specs.Cells.{cell, found}
-use Rattle.least_slacks.proofs.CellNumbers.{near-wider}
+use Rattle.set_minima.specs.Cells.{cell, found}
+use Rattle.set_minima.proofs.CellNumbers.{near-wider}
 use Rattle.mill_model.specs.declared.prices.TheConstants.{MAX_PRICE}
 use Rattle.least_slacks.proofs.least_slack.best_gain.Goals as goal
 

@@ -2,7 +2,7 @@ use Rattle.std.proofs.Common.{ℕ, ℤ, List, Bool, ◌+◌, ◌*◌, length, sl
 use Rattle.mill_model.specs.declared.order.Order.{Order}
 use Rattle.set_minima.specs.Packs.{IsTable, IsTop}
 use Rattle.set_minima.specs.Joins.{gain, Packed}
-use Rattle.least_slacks.specs.Cells.{cell, found, IsNear}
+use Rattle.set_minima.specs.Cells.{cell, found, IsNear}
 use Rattle.mill_model.specs.declared.prices.TheConstants.{MAX_PRICE}
 use Rattle.least_slacks.proofs.least_slack.best_gain.Given as goal
 

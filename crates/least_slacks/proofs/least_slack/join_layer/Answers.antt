@@ -3,9 +3,9 @@ use Rattle.std.proofs.Common.{arith, true, false, Bool, refl}
 use Rattle.list_laws.specs.Sets.{holds}
 use Rattle.set_minima.specs.Packs.{IsBest, colour_at}
 use Rattle.set_minima.proofs.LeftOut.{colours-paid}
-use Rattle.least_slacks.specs.Cells.{cell, found}
+use Rattle.set_minima.specs.Cells.{cell, found}
 use Rattle.least_slacks.specs.Later.{others_of}
-use Rattle.least_slacks.proofs.LayersRaised.{near-copied-from}
+use Rattle.set_minima.proofs.LayersRaised.{near-copied-from}
 use Rattle.least_slacks.proofs.least_slack.join_layer.Goals as goal
 
 pub add_left_out-requires-clause-near : goal.add_left_out-requires-clause-near

@@ -7,9 +7,9 @@ use Rattle.std.proofs.lemmas.List.{get_or-take, length-take, get_or_past}
 use Rattle.set_minima.specs.Packs.{IsTop, IsBest}
 use Rattle.set_minima.specs.Joins.{gain, Joins, Packed, all_places}
 use Rattle.set_minima.proofs.LeftOut.{joins-within}
-use Rattle.least_slacks.specs.Cells.{found, IsSmall}
-use Rattle.least_slacks.proofs.CellNumbers.{turned}
-use Rattle.least_slacks.proofs.LayersRaised.{near-zero}
+use Rattle.set_minima.specs.Cells.{found, IsSmall}
+use Rattle.set_minima.proofs.CellNumbers.{turned}
+use Rattle.set_minima.proofs.LayersRaised.{near-zero}
 use Rattle.least_slacks.proofs.LeastFromTable.{least-from, small-from}
 use Rattle.least_slacks.proofs.least_slack.slack_from.Goals as goal
 

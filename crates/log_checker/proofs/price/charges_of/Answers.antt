@@ -7,7 +7,7 @@ use Rattle.std.proofs.lemmas.Int.{ints}
 use Rattle.std.proofs.lemmas.List.{get_or_default, get_or_push, get_or_append_left}
 use Rattle.std.proofs.lemmas.List.Elements.{All-push}
 use Rattle.log_checker.specs.Groups.{nothing_seen}
-use Rattle.least_slacks.specs.Cells.{IsSmall}
+use Rattle.set_minima.specs.Cells.{IsSmall}
 use Rattle.log_checker.proofs.price.charges_of.Goals as goal
 
 pub loop-g-preserved : goal.loop-g-preserved

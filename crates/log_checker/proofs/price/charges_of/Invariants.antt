@@ -1,6 +1,6 @@
 use Rattle.std.proofs.Common.{◌≡◌, ◌*◌, ◌<◌, ℕ, pos, length, All, slice_index, get_or}
 use Rattle.log_checker.specs.Groups.{nothing_seen}
-use Rattle.least_slacks.specs.Cells.{IsSmall}
+use Rattle.set_minima.specs.Cells.{IsSmall}
 use Rattle.log_checker.proofs.price.charges_of.Given as goal
 
 abbrev pub invariant-loop-g : goal.invariant-loop-g

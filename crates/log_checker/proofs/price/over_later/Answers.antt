@@ -10,7 +10,7 @@ use Rattle.mill_model.specs.Tree.{next_new}
 use Rattle.mill_model.specs.Prices.{valid, worth}
 use Rattle.mill_model.specs.Slab.{Mill}
 use Rattle.list_laws.specs.Sets.{int_sum, int_total}
-use Rattle.least_slacks.proofs.CellNumbers.{fits-64}
+use Rattle.set_minima.proofs.CellNumbers.{fits-64}
 use Rattle.least_slacks.specs.Keys.{HasRoom}
 use Rattle.least_slacks.specs.Limits.{mill_within}
 use Rattle.least_slacks.specs.declared.key.Key.{Key}

@@ -9,7 +9,7 @@ use Rattle.std.proofs.lemmas.List.Elements.{All-set}
 use Rattle.log_checker.specs.ByRules.{mill_by}
 use Rattle.log_checker.specs.Slacks.{slack_of, no_live}
 use Rattle.log_checker.specs.declared.keys.LiveGroup.{LiveGroup}
-use Rattle.least_slacks.specs.Cells.{IsSmall}
+use Rattle.set_minima.specs.Cells.{IsSmall}
 use Rattle.log_checker.proofs.SlacksOfGroups.{charged-first, live-slack, slack-step, slack-last}
 use Rattle.log_checker.proofs.SlacksOfGroups.{sorted-lives}
 use Rattle.log_checker.proofs.price.slacks_of.Goals as goal

@@ -1,6 +1,6 @@
 use Rattle.std.proofs.Common.{◌≡◌, ◌<◌, ◌⊎◌, ℕ, length, All, pos, get_or, map, drop}
 use Rattle.list_laws.proofs.Among.{Among}
-use Rattle.least_slacks.specs.Cells.{IsSmall}
+use Rattle.set_minima.specs.Cells.{IsSmall}
 use Rattle.log_checker.specs.ByRules.{mill_by}
 use Rattle.log_checker.specs.Keys.{group_in}
 use Rattle.log_checker.specs.Slacks.{slack_of}

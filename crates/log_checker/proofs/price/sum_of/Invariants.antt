@@ -1,6 +1,6 @@
 use Rattle.std.proofs.Common.{◌≡◌, ◌*◌, ◌+ℤ◌, drop}
 use Rattle.list_laws.specs.Sets.{int_sum}
-use Rattle.least_slacks.specs.Cells.{IsSmall}
+use Rattle.set_minima.specs.Cells.{IsSmall}
 use Rattle.log_checker.proofs.price.sum_of.Given as goal
 
 abbrev pub invariant-loop-number : goal.invariant-loop-number

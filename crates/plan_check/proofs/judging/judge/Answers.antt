@@ -1,3 +1,6 @@
+-- Slabs are judged by rising number, and all below this one are legal. So the first that isn't
+-- legal is the lowest, and what is wrong with it decides all three clauses at once; where none is
+-- met, the plan is legal, and the charges so far are its loss.
 use Rattle.std.proofs.Common.{◌≡◌, ◌<◌, ◌≤◌, ◌∙◌, length, get_or, slice_index, rules}
 use Rattle.std.proofs.lemmas.List.{get_or_default}
 use Rattle.mill_model.specs.Charges.{charge_of}

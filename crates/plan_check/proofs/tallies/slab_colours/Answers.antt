@@ -1,3 +1,5 @@
+-- Each order gives a pair of its slab and its colour. Sorted and without repeats, the pairs of a
+-- slab have each of its colours once.
 use Rattle.std.proofs.Common.{◌≡◌, ◌∙◌, ◌<◌, ◌≤◌, length, ap, arith}
 use Rattle.list_laws.specs.Sets.{holds}
 use Rattle.plan_check.specs.Tallies.{colours_on}

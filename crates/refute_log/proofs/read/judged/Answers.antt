@@ -1,3 +1,6 @@
+-- Before each line the text has begun as a log's does: with the first line and the records so far.
+-- The next line is `end`, or a record that keeps this so, or it is what is wrong: no record's line,
+-- or a record whose path doesn't come after the one before.
 use Rattle.std.proofs.Common.{◌≡◌, ◌+◌, ◌<◌, ◌∷◌, ◌++◌, ◌∙◌, [], ap, sym, length, true, false}
 use Rattle.std.proofs.Common.{inl, inr, arith, rules, length-append}
 use Rattle.line_text.specs.Lines.{is_end}

@@ -1,3 +1,6 @@
+-- A record's line is a letter, the length of the path, the path, what closes it, and no more. Where
+-- one of these parts doesn't stand, no record that fits has these words: its own words would have
+-- the part there.
 use Rattle.std.proofs.Common.{◌≡◌, ◌∙◌, ◌∷◌, [], sym, arith, rules, true, false}
 use Rattle.std.specs.Fmt.{decimal}
 use Rattle.line_text.specs.Words.{line_words}

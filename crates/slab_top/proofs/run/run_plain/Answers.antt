@@ -1,6 +1,7 @@
 -- What the parts of the call give, put together: an output that is right, that every right one
 -- agrees with it, and the cause of each failure.
-use Rattle.std.proofs.Common.{◌∙◌, refl, sym, subst}
+use Rattle.std.proofs.Common.{[], ◌∙◌, refl, sym, subst}
+use Rattle.std.proofs.lemmas.List.{append-nil}
 use Rattle.std.specs.Io.KnownBytes.{Appends}
 use Rattle.mill_io.specs.Bytes.{AppendsFront}
 use Rattle.job_words.specs.Words.{texts}
@@ -9,6 +10,7 @@ use Rattle.slab_top.specs.Agree.{MayEndWith}
 use Rattle.slab_top.specs.Run.{IsOwnStatus}
 use Rattle.slab_top.proofs.Replying.{agree-status, outcome-own}
 use Rattle.slab_top.proofs.Rights.{right-agree, enough-served, ended-for, wrong-agree, unread-for}
+use Rattle.slab_top.proofs.Given.{served-whole-of, served-none, enough-given}
 use Rattle.slab_top.proofs.run.run_plain.Goals as goal
 
 pub write_out-requires : goal.write_out-requires
@@ -100,5 +102,62 @@ pub returns-in-Err-clause-front : goal.returns-in-Err-clause-front
 returns-in-Err-clause-front g c failed = (
   WrongWords,
   λ job asked. let error = c.in_default.ensures.asked job asked in absurd (cc),
+  c.in-Err.ensures.err,
+)
+
+-- What the reads of this call gave, where the words ask for a job,
+
+pub returns-in-Ok-reply-clause-given : goal.returns-in-Ok-reply-clause-given
+returns-in-Ok-reply-clause-given g c whole =
+    let answered = c.in-Ok-outcome_of.ensures.given in (
+      answered.input,
+      Answered c.in-Ok-outcome_of.outcome,
+      answered.given,
+      served-whole-of (texts c.args.words.now) c.in-Ok.job _ _ _ c.in-Ok-outcome_of.outcome
+          c.in-Ok.ensures.job (λ other asked. let same = c.in-Ok.ensures.asked other asked in cc)
+          answered,
+      c.write_out.ensures.status whole.written ∙ c.in-Ok-reply.ensures.status,
+      subst (Appends _ _) c.in-Ok-reply.ensures.text (c.write_out.ensures.whole whole.written),
+    )
+
+pub returns-in-Ok-reply-clause-given_front : goal.returns-in-Ok-reply-clause-given_front
+returns-in-Ok-reply-clause-given_front g c failed =
+    let answered = c.in-Ok-outcome_of.ensures.given in (
+      answered.input,
+      Answered c.in-Ok-outcome_of.outcome,
+      answered.given,
+      served-whole-of (texts c.args.words.now) c.in-Ok.job _ _ _ c.in-Ok-outcome_of.outcome
+          c.in-Ok.ensures.job (λ other asked. let same = c.in-Ok.ensures.asked other asked in cc)
+          answered,
+      subst (AppendsFront _ _) c.in-Ok-reply.ensures.text (c.write_out.ensures.front failed),
+    )
+
+pub returns-in-Ok-reply-clause-given_enough : goal.returns-in-Ok-reply-clause-given_enough
+returns-in-Ok-reply-clause-given_enough g c =
+    enough-given (texts c.args.words.now) c.in-Ok.job _ _ _ c.in-Ok-outcome_of.outcome
+    c.in-Ok.ensures.job (λ other asked. let same = c.in-Ok.ensures.asked other asked in cc)
+    c.in-Ok-outcome_of.ensures.given c.write_out.result
+    (λ written. c.write_out.ensures.status written ∙ c.in-Ok-reply.ensures.status)
+
+-- and where they ask for nothing.
+
+pub returns-in-Ok-write_usage-clause-given : goal.returns-in-Ok-write_usage-clause-given
+returns-in-Ok-write_usage-clause-given g c whole = (
+  [],
+  WrongWords,
+  sym (append-nil _),
+  served-none (texts c.args.words.now) _
+      (λ job asked. let error = c.in_default.ensures.asked job asked in absurd (cc)),
+  refl,
+  c.in-Ok-write_usage.ensures.ok,
+)
+
+pub returns-in-Err-clause-given_front : goal.returns-in-Err-clause-given_front
+returns-in-Err-clause-given_front g c failed = (
+  [],
+  WrongWords,
+  sym (append-nil _),
+  served-none (texts c.args.words.now) _
+      (λ job asked. let error = c.in_default.ensures.asked job asked in absurd (cc)),
   c.in-Err.ensures.err,
 )

@@ -11,8 +11,8 @@ join-requires c =
     (slab_at-old c.args.empty.now c.args.groups.now.items c.args.group c.in-Some.slab.now l item.1)
     c.requires.fits
 
-pub returns-in-Some : goal.returns-in-Some
-returns-in-Some c =
+pub returns-in-Some-clause-joined : goal.returns-in-Some-clause-joined
+returns-in-Some-clause-joined c =
     let item = c.in-Some.ensures.item in
     let l : c.args.group < length c.args.groups.now.items = ltb-true _ _ (sym item.0) in
     rw c.join.ensures.is (sym (with_order-old c.args.empty.now c.args.groups.now.items c.args.group
@@ -25,8 +25,8 @@ join-requires-2 c =
     (slab_at-new c.args.empty.now c.args.groups.now.items c.args.group l
     ∙ sym c.copy-slab.ensures) c.requires.fits
 
-pub returns : goal.returns
-returns c =
+pub returns-clause-joined : goal.returns-clause-joined
+returns-clause-joined c =
     let l : length c.args.groups.now.items ≤ c.args.group = c.in_default.ensures.item.3 in
     let n : c.args.group ≤ length c.args.groups.now.items = c.requires.number in
     rw (c.in_ok-push.ensures.items, c.join-2.ensures.is, c.copy-slab.ensures) (sym

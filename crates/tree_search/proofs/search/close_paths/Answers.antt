@@ -1,6 +1,6 @@
 use Rattle.std.proofs.Common.{◌∙◌}
 use Rattle.tree_search.proofs.Closed.{closed-kept, next-inside}
-use Rattle.tree_search.proofs.Steps.{same-tree}
+use Rattle.tree_search.proofs.ClosedByNode.{same-tree}
 use Rattle.tree_search.proofs.search.close_paths.Goals as goal
 
 pub close-requires-clause-inside : goal.close-requires-clause-inside

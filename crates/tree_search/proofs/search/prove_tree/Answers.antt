@@ -1,10 +1,13 @@
+-- The search kept a record of each path that it closed. These records are a log, and its laws turn
+-- what the search kept into what is promised: a run, and a refutation where no path waits.
 use Rattle.std.proofs.Common.{rules, ◌≡◌, ◌<◌, length, ap, sym, subst, ◌∙◌, arith}
 use Rattle.mill_model.specs.Log.{Refutes}
+use Rattle.mill_laws.proofs.Ranked.{ranked-count}
 use Rattle.refute_log.specs.Logged.{Logged, IsLog}
 use Rattle.tree_search.specs.Search.{IsRun}
 use Rattle.tree_search.proofs.Ended.{searched-run, none-loses-less, none-waits, searched-log}
-use Rattle.tree_search.proofs.Ended.{some-waits, ranked-count}
-use Rattle.tree_search.proofs.Steps.{same-count}
+use Rattle.tree_search.proofs.Ended.{some-waits}
+use Rattle.tree_search.proofs.ClosedByNode.{same-count}
 use Rattle.tree_search.proofs.search.prove_tree.Goals as goal
 
 pub from_rising-log-requires : goal.from_rising-log-requires

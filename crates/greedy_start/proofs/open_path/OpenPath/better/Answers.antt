@@ -6,7 +6,8 @@ use Rattle.mill_model.specs.Charges.{charge_of}
 use Rattle.order_symmetry.specs.Ranked.{orders_of}
 use Rattle.split_tree.specs.Node.{Node}
 use Rattle.split_tree.proofs.Losses.{group-at}
-use Rattle.greedy_start.proofs.Choices.{fits-stays, added-by_slab, best-kept, best-taken, clash}
+use Rattle.greedy_start.proofs.Choices.{fits-stays, added-by_slab, best-kept, best-taken}
+use Rattle.list_laws.proofs.Tests.{clash}
 use Rattle.greedy_start.proofs.open_path.OpenPath.better.Goals as goal
 
 pub returns-then-not-fits : goal.returns-then-not-fits

@@ -55,11 +55,11 @@ invariant_of-result c =
     ∙ length-append c.args.self.numbers.items (c.args.group ∷ []) in
     let many : length c.join_group.new.groups.items
     ≡ length (with_order c.empty-empty.result c.args.self.groups.items c.args.group c.args.order) =
-    ap length c.in_ok-join_group.ensures in
+    ap length c.in_ok-join_group.ensures.joined in
     let more = length-with_order c.empty-empty.result c.args.self.groups.items c.args.group
     c.args.order low in
     record {
-      are_groups = rw (c.in_ok-push.ensures.items, c.in_ok-join_group.ensures) grown;
+      are_groups = rw (c.in_ok-push.ensures.items, c.in_ok-join_group.ensures.joined) grown;
       few_groups = omega (arith, long, many, more, low, c.args.self.few_groups);
       within = omega (
         arith,

@@ -1,7 +1,7 @@
 use Rattle.std.proofs.Common.{◌∷◌, []}
 use Rattle.std.proofs.lemmas.Result.{err_from_is_err_and}
 use Rattle.instance_text.specs.declared.field.Field.TheVariants.{Weight, Colour}
-use Rattle.instance_text.proofs.Parts.{fails_next, fails_front, fails_later, took_append}
+use Rattle.instance_text.proofs.FieldsInTurn.{fails_next, fails_front, fails_later, took_append}
 use Rattle.instance_text.proofs.reader.Reader.order.Goals as goal
 
 pub returns-in_err-weight-clause-refused : goal.returns-in_err-weight-clause-refused

@@ -2,7 +2,7 @@ use Rattle.std.proofs.Common.{◌≡◌, ◌+◌, ◌-◌, [], ◌∷◌, arith}
 use Rattle.std.proofs.lemmas.Result.{err_from_is_err_and}
 use Rattle.instance_text.specs.declared.field.Field.TheVariants.{Weight, Colour}
 use Rattle.instance_text.specs.Fields.{order_fields}
-use Rattle.instance_text.proofs.Parts.{fails_on, took_on}
+use Rattle.instance_text.proofs.FieldsInTurn.{fails_on, took_on}
 use Rattle.instance_text.proofs.Repeats.{orders_more, orders_split, length-order_fields}
 use Rattle.instance_text.proofs.Repeats.{took_no_order, took_tokens, numbers_of_orders_push}
 use Rattle.instance_text.proofs.reader.Reader.orders.Goals as goal

@@ -2,7 +2,7 @@ use Rattle.std.proofs.Common.{◌≡◌, ◌+◌, ◌-◌, [], ◌∷◌, replic
 use Rattle.std.proofs.lemmas.List.{length-replicate}
 use Rattle.std.proofs.lemmas.Result.{err_from_is_err_and}
 use Rattle.instance_text.specs.declared.field.Field.TheVariants.{Size}
-use Rattle.instance_text.proofs.Parts.{fails_next, fails_on, took_on}
+use Rattle.instance_text.proofs.FieldsInTurn.{fails_next, fails_on, took_on}
 use Rattle.instance_text.proofs.Repeats.{sizes_more, sizes_split, took_none, took_tokens}
 use Rattle.instance_text.proofs.reader.Reader.sizes.Goals as goal
 

@@ -1,9 +1,14 @@
 use Rattle.std.proofs.Common.{ap}
-use Rattle.mill_io.proofs.Fronts.{front_given}
+use Rattle.mill_io.proofs.Fronts.{front-given, given-goes-on}
 use Rattle.mill_io.proofs.memory.MemSourceSource.read.Goals as goal
 
 pub returns-clause-bytes : goal.returns-clause-bytes
 returns-clause-bytes c =
-    front_given _ _ _ _ c.self.inside.at _ _ _ c.deref-2.ensures.value
+    front-given _ _ _ _ c.self.inside.at _ _ _ c.deref-2.ensures.value
     (ap (λ supply. supply.left) c.self.view_is) c.give-count.ensures.same
     c.give-count.ensures.count (λ _. c.self.invariant.1)
+
+pub returns-clause-gives : goal.returns-clause-gives
+returns-clause-gives c =
+    given-goes-on _ _ _ _ c.self.inside.at _ c.deref-2.ensures.value
+    (ap (λ supply. supply.given) c.self.view_is) c.give-count.ensures.same

@@ -1,4 +1,4 @@
-use Rattle.std.proofs.Common.{◌≡◌, ◌≤◌, ◌-◌, length, take}
+use Rattle.std.proofs.Common.{◌≡◌, ◌++◌, ◌≤◌, ◌-◌, length, take}
 use Rattle.std.specs.Io.KnownBytes.{Appends}
 use Rattle.mill_io.proofs.standard.StdSinkSink.write_all.Given as goal
 
@@ -8,6 +8,7 @@ invariant-loop-at g l = record {
   written :
       Appends (g.W.Write.contents l.fn.self.inner) (g.W.Write.contents l.self.inner)
       (take l.at l.piece);
+  taken : l.self.taken.bytes ≡ l.fn.self.taken.bytes ++ take l.at l.piece;
   faults : l.self.faults ≡ l.fn.self.faults;
 }
 

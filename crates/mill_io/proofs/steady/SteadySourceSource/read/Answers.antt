@@ -1,8 +1,15 @@
-use Rattle.mill_io.proofs.Fronts.{front_given}
+use Rattle.std.proofs.Common.{ap}
+use Rattle.mill_io.proofs.Fronts.{front-given, given-goes-on}
 use Rattle.mill_io.proofs.steady.SteadySourceSource.read.Goals as goal
 
 pub returns-clause-bytes : goal.returns-clause-bytes
 returns-clause-bytes c =
-    front_given _ _ _ _ c.self.inside.at _ _ _ c.deref.ensures.value c.self.view_is
+    front-given _ _ _ _ c.self.inside.at _ _ _ c.deref.ensures.value
+    (ap (λ feed. feed.left) c.self.view_is)
     c.give-count.ensures.same c.give-count.ensures.count
     (λ some. rw c.give-count.auto.buf at some)
+
+pub returns-clause-gives : goal.returns-clause-gives
+returns-clause-gives c =
+    given-goes-on _ _ _ _ c.self.inside.at _ c.deref.ensures.value
+    (ap (λ feed. feed.given) c.self.view_is) c.give-count.ensures.same

@@ -1,3 +1,5 @@
+-- Before each rank the plan has the numbers of the orders of lower ranks, each at its order's
+-- place, and 0 elsewhere. The ranks name each place once, so in the end the plan is the path's.
 use Rattle.std.proofs.Common.{◌≡◌, ◌<◌, length, map, replicate, sym, ap, ◌∙◌, arith, rules, vec_len}
 use Rattle.std.proofs.lemmas.List.{length-map}
 use Rattle.order_symmetry.specs.Numbered.{placed_of}

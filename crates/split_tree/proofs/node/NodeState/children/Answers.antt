@@ -1,3 +1,6 @@
+-- After each number the children so far are those with a number below it. The next number gives one
+-- child more where its group takes the order and it isn't below the least that may come; else the
+-- group is full, or the number comes too early, and there is no child more.
 use Rattle.std.proofs.Common.{◌≡◌, ◌≤◌, ◌∷◌, ◌++◌, [], length, ap, ◌∙◌, sym, arith, rules}
 use Rattle.std.proofs.Common.{ap₂, List, ℕ}
 use Rattle.mill_model.specs.Tree.{next_new, children}

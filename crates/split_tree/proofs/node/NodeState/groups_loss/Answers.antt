@@ -1,6 +1,8 @@
+-- After each group the sum is what the groups so far are charged, and at most a greatest charge for
+-- each of them, so it doesn't overflow. The node inside is the node that is seen, so what holds of
+-- the one is carried over to the other.
 use Rattle.std.proofs.Common.{◌≡◌, ◌<◌, ◌≤◌, ◌+◌, ◌*◌, ◌^◌, length, get_or, ap, ◌∙◌, sym, arith}
-use Rattle.std.proofs.Common.{rules}
-use Rattle.std.proofs.Common.{subst}
+use Rattle.std.proofs.Common.{rules, subst}
 use Rattle.mill_model.specs.Tree.{next_new}
 use Rattle.mill_model.specs.declared.order.TheConstants.{MAX_ORDERS}
 use Rattle.split_tree.specs.Node.{Node, groups_loss}
@@ -48,11 +50,13 @@ loop-group-preserved c =
     let more : charged_below c.args.charges.now.list c.args.self.now (c.loop-group.group-index + 1)
     ≡ charged_below c.args.charges.now.list c.args.self.now c.loop-group.group-index
     + get_or c.args.charges.now.list c.group-item.result.load 0 =
-    subst (λ (node : Node). charged_below c.args.charges.now.list node (c.loop-group.group-index + 1)
-    ≡ charged_below c.args.charges.now.list node c.loop-group.group-index
-    + get_or c.args.charges.now.list c.group-item.result.load 0) c.self.view_is (charged_below-more node
-    c.self.inside.groups.items c.self.invariant.1 c.loop-group.group-index c.group-item.result
-    (rw value at c.loop-group-test.true) (rw value at c.group-item.is) c.args.charges.now.list) in
+    let charges = c.args.charges.now.list in
+    let one-more = charged_below-more node c.self.inside.groups.items c.self.invariant.1
+    c.loop-group.group-index c.group-item.result (rw value at c.loop-group-test.true)
+    (rw value at c.group-item.is) charges in
+    subst (λ (node : Node). charged_below charges node (c.loop-group.group-index + 1)
+    ≡ charged_below charges node c.loop-group.group-index
+    + get_or charges c.group-item.result.load 0) c.self.view_is one-more in
     let charge : c.charge-loss.result ≡ get_or c.args.charges.now.list c.group-item.result.load 0 =
     c.charge-loss.ensures.is ∙ ap (λ l. get_or c.args.charges.now.list l 0) c.load.ensures.is in
     let sum : c.loop-group.loss ≡ charged_below c.args.charges.now.list c.args.self.now
@@ -70,10 +74,10 @@ returns c =
     let auto : c.loop-group.group-index ≤ length c.self.inside.groups.items =
     rw value at c.loop-group.auto.group-index-end in
     let all : c.loop-group.group-index ≡ length c.self.inside.groups.items = omega arith in
-    c.loop-group.invariant.sum ∙ subst (λ (node : Node). charged_below c.args.charges.now.list node
-    c.loop-group.group-index ≡ groups_loss (λ l. get_or c.args.charges.now.list l 0) node)
-    c.self.view_is (charged_below-all (record {
-      ranked = c.self.inside.ranked.now;
-      path = c.self.inside.path;
-    }) c.self.inside.groups.items c.self.invariant.1 c.args.charges.now.list c.loop-group.group-index
-    all)
+    let charges = c.args.charges.now.list in
+    let node : Node = record { ranked = c.self.inside.ranked.now; path = c.self.inside.path } in
+    c.loop-group.invariant.sum ∙ subst (λ (node : Node).
+    charged_below charges node c.loop-group.group-index
+    ≡ groups_loss (λ l. get_or charges l 0) node) c.self.view_is
+    (charged_below-all node c.self.inside.groups.items c.self.invariant.1 charges
+    c.loop-group.group-index all)

@@ -1,3 +1,5 @@
+-- The groups are built along the path, one order after another. A path of the tree gives each order
+-- to a group that stands or to the next new one, and legally, so each order may join where it goes.
 use Rattle.std.proofs.Common.{◌<◌, ◌≤◌, length, rules}
 use Rattle.mill_model.specs.declared.order.TheConstants.{MAX_ORDERS}
 use Rattle.split_tree.proofs.Nodes.{path-short, path-long}
@@ -42,7 +44,7 @@ loop-rank-preserved c =
     let numbers = c.numbers-numbers.ensures in
     let start = empty-is c.args.ranked.now.mill c.largest.result c.p.result c.empty-empty.result
     c.largest.ensures.is c.p.ensures.is c.empty-empty.ensures.is in
-    rw (c.in_ok-join_group.ensures, numbers)
+    rw (c.in_ok-join_group.ensures.joined, numbers)
     (walk-more c.args.ranked.now c.args.path.now c.loop-rank.rank c.order.result c.requires
     (rw numbers at c.loop-rank-test.true) c.order.ensures.is c.loop-rank.groups.items
     c.loop-rank.invariant c.empty-empty.result start

@@ -1,0 +1,24 @@
+use Rattle.std.proofs.Common.{◌≡◌, ℕ, List, [], ◌+◌, ◌-◌, ◌*◌, ◌<◌, ◌≤◌, length, pos}
+use Rattle.std.proofs.Common.{slice_index_or}
+use Rattle.set_minima.specs.Cells.{cell, AreNear}
+use Rattle.knap_bound.specs.Packing.{let_to, IsRunOf, IsTableOf, AreLayersOf}
+use Rattle.mill_model.specs.Limits.{all_prices}
+use Rattle.knap_bound.proofs.colour_layers.add_colour.Given as goal
+
+abbrev pub invariant-loop-t : goal.invariant-loop-t
+invariant-loop-t l = record {
+  done :
+      (out : List ℕ) (colour : ℕ) →
+      IsRunOf l.packing out l.run.0 l.run.1 colour →
+      AreLayersOf l.packing (let_to l.packing out l.run.0) l.layers
+      (length l.initial.table) l.initial.tables →
+      (s : ℕ) → l.t ≤ s → s < l.layers →
+      IsTableOf l.packing (let_to l.packing out l.run.1) [] s
+      (length l.initial.table) (λ i. cell l.tables (s * length l.initial.table + i));
+  old :
+      (i : ℕ) → i < l.t * length l.initial.table →
+      slice_index_or l.tables i (pos 0) ≡ slice_index_or l.initial.tables i (pos 0);
+  near :
+      (n : ℕ) → AreNear n l.initial.tables →
+      AreNear (n + (l.layers - l.t) * all_prices) l.tables;
+}

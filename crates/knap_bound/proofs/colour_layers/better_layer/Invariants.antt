@@ -1,0 +1,14 @@
+use Rattle.std.proofs.Common.{◌≡◌, ℕ, ◌+◌, ◌<◌, ◌≤◌, ◌⊎◌, pos, slice_index_or}
+use Rattle.std.specs.Int.{int_max}
+use Rattle.knap_bound.proofs.colour_layers.better_layer.Given as goal
+
+abbrev pub invariant-loop-l : goal.invariant-loop-l
+invariant-loop-l l = record {
+  here :
+      (k : ℕ) → k < l.l → slice_index_or l.tables (l.at + k) (pos 0) ≡
+      int_max (slice_index_or l.initial.tables (l.at + k) (pos 0))
+      (slice_index_or l.table k (pos 0));
+  other :
+      (i : ℕ) → i < l.at ⊎ l.at + l.l ≤ i →
+      slice_index_or l.tables i (pos 0) ≡ slice_index_or l.initial.tables i (pos 0);
+}

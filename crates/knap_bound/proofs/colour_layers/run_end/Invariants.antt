@@ -1,0 +1,7 @@
+use Rattle.std.proofs.Common.{◌≡◌, ℕ, ◌<◌, ◌≤◌}
+use Rattle.knap_bound.specs.Items.{item_at}
+use Rattle.knap_bound.proofs.colour_layers.run_end.Given as goal
+
+abbrev pub invariant-loop-t : goal.invariant-loop-t
+invariant-loop-t l =
+    (s : ℕ) → l.at ≤ s → s < l.t → (item_at l.items s).colour ≡ (item_at l.items l.at).colour

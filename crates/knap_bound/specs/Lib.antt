@@ -1,0 +1,4 @@
+pub mod Items
+pub mod Packing
+pub mod Later
+pub mod Knapsacks

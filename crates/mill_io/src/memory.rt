@@ -80,14 +80,14 @@ impl Source for MemSource {
     fn read(&mut self, buf: &mut [u8]) -> Result<usize, Failed>
         ensures bound { ReadsAtMost result buf.new }
         ensures bytes { ReadConsumes (Some self.old.left) (Some self.new.left) result buf.new }
-        ensures gives { Gives self.old.given self.new.given result buf.new }
+        ensures given { Gives self.old.given self.new.given result buf.new }
         ensures end { FindsEnd result buf.new → self.new.left ≡ [] }
         ensures cause { HasCause self.old.faults self.new.faults result }
 
         // Just the listed reads fail, and the others give all that may be given.
         ensures number { self.new.reads ≡ one_more self.old.reads }
         ensures failing { IsErr result ↔ Contains self.old.failing self.new.reads }
-        ensures given { IfOk result (λ count.
+        ensures most { IfOk result (λ count.
             count ≡ min (min self.old.piece (length self.old.left)) (length buf.old)) }
         ensures count { self.new.faults ≡ count_after self.old.faults result }
 

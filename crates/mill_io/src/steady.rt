@@ -1,4 +1,4 @@
-ghost use Rattle.std.specs.Prelude.{◌≡◌, ℕ, ◌+◌, ◌-◌, ◌^◌, ◌≤◌, List, [], drop, length, min, take};
+ghost use Rattle.std.specs.Prelude.{◌≡◌, ℕ, ◌+◌, ◌-◌, ◌^◌, ◌≤◌, [], drop, length, min, take};
 ghost use Rattle.std.specs.Prelude.{IfOk, Ok, Some, None};
 ghost use Rattle.std.specs.Io.{ReadsAtMost};
 ghost use Rattle.std.specs.Io.KnownBytes.{ReadConsumes};
@@ -54,10 +54,10 @@ impl Source for SteadySource {
     fn read(&mut self, buf: &mut [u8]) -> Result<usize, Failed>
         ensures bound { ReadsAtMost result buf.new }
         ensures bytes { ReadConsumes (Some self.old.left) (Some self.new.left) result buf.new }
-        ensures gives { Gives self.old.given self.new.given result buf.new }
+        ensures given { Gives self.old.given self.new.given result buf.new }
         ensures end { FindsEnd result buf.new → self.new.left ≡ [] }
         ensures cause { HasCause 0 0 result }
-        ensures given { result ≡ Ok (min (length self.old.left) (length buf.old)) }
+        ensures most { result ≡ Ok (min (length self.old.left) (length buf.old)) }
     {
         let count = give(&self.bytes, self.at, buf.len(), buf);
         self.at += count;

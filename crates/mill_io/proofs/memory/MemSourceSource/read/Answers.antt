@@ -8,7 +8,7 @@ returns-clause-bytes c =
     (ap (λ supply. supply.left) c.self.view_is) c.give-count.ensures.same
     c.give-count.ensures.count (λ _. c.self.invariant.1)
 
-pub returns-clause-gives : goal.returns-clause-gives
-returns-clause-gives c =
+pub returns-clause-given : goal.returns-clause-given
+returns-clause-given c =
     given-goes-on _ _ _ _ c.self.inside.at _ c.deref-2.ensures.value
     (ap (λ supply. supply.given) c.self.view_is) c.give-count.ensures.same

@@ -9,7 +9,7 @@ returns-clause-bytes c =
     c.give-count.ensures.same c.give-count.ensures.count
     (λ some. rw c.give-count.auto.buf at some)
 
-pub returns-clause-gives : goal.returns-clause-gives
-returns-clause-gives c =
+pub returns-clause-given : goal.returns-clause-given
+returns-clause-given c =
     given-goes-on _ _ _ _ c.self.inside.at _ c.deref.ensures.value
     (ap (λ feed. feed.given) c.self.view_is) c.give-count.ensures.same

@@ -2,8 +2,8 @@
 -- below n, so there are finitely many: by one number after the other, either none of them passes a
 -- test, or one that does has the greatest value.
 use Rattle.std.proofs.Common.{ℕ, zero, suc, ◌<◌, ◌≤◌, ◌-◌, ◌≡◌, ◌⊎◌, Bool, true, false, ◌&&◌}
-use Rattle.std.proofs.Common.{List, [], ◌∷◌, length, eqb, ltb, leb, refl, inl, inr, arith, eqb-true, ltb-true}
-use Rattle.std.proofs.Common.{leb-true, leb-false, eq-eqb, subst}
+use Rattle.std.proofs.Common.{List, [], ◌∷◌, length, eqb, ltb, leb, refl, inl, inr, arith, subst}
+use Rattle.std.proofs.Common.{eqb-true, ltb-true, leb-true, leb-false, eq-eqb}
 use Rattle.std.proofs.lemmas.Bool.{lt-ltb, le-leb}
 use Rattle.std.specs.List.{list_all}
 use Rattle.list_laws.proofs.Tests.{either, and-left, and-right, clash, last-or-below}

@@ -5,4 +5,10 @@
 #[cfg(test)]
 mod deques;
 #[cfg(test)]
+mod ends;
+#[cfg(test)]
+mod paths;
+#[cfg(test)]
+mod together;
+#[cfg(test)]
 mod words;

@@ -1,27 +1,77 @@
-//! Each fault of a source or a sink is told.
+//! Each fault of a reader or a writer of std is told, in the middle of a stream too.
 
-use mill_io::{MemSink, MemSource, StdSink, StdSource};
-use slab_top::run_plain;
+use slab_top::run_streams;
+use std::io;
+use std::io::{Read, Write};
 use std::test::Fail;
 
 const USAGE: &str =
     "usage: mill_slab solve|prove|check|verify|replay|drill [--workers N] [--nodes N] \
     [--colours N] [--moves N] [--seed N] [--orders N]\n";
 
+// A reader that gives a byte a read, and of whose reads one fails. Those behind it go on.
+#[derive(Drop)]
+struct OneReadFails<'a> {
+    bytes: &'a [u8],
+    reads: usize,
+    failing: usize,
+}
+
+impl Read for OneReadFails<'_> {
+    fn read(&mut self, buf: &mut [u8]) -> io::Result<usize> {
+        self.reads = self.reads.saturating_add(1);
+        if self.reads == self.failing {
+            return Err(io::Error::from(io::ErrorKind::Other));
+        }
+        let count = self.bytes.len().min(buf.len()).min(1);
+        buf[..count].copy_from_slice(&self.bytes[..count]);
+        self.bytes = &self.bytes[count..];
+        Ok(count)
+    }
+}
+
+// A writer that takes at most three bytes a write, and fails where there is no more room.
+#[derive(Drop)]
+struct LittleRoom<'a> {
+    held: &'a mut Vec<u8>,
+    room: usize,
+}
+
+impl Write for LittleRoom<'_> {
+    fn write(&mut self, buf: &[u8]) -> io::Result<usize> {
+        let count = self.room.min(buf.len()).min(3);
+        if count == 0 {
+            return Err(io::Error::from(io::ErrorKind::Other));
+        }
+        self.held.extend_from_slice(&buf[..count])?;
+        self.room -= count;
+        Ok(count)
+    }
+
+    fn flush(&mut self) -> io::Result<()> {
+        Ok(())
+    }
+}
+
+// The input has 11 bytes, and the twelfth read finds its end. There is no thirteenth.
 #[test]
 fn each_failing_read_is_told(rt: HostRuntime) -> Result<(), Fail> {
     let alloc = rt.alloc();
     let words = vec![in alloc; String::from_str(alloc, "solve")?]?;
-    // The input has 11 bytes, and the twelfth read finds its end.
-    for read in 1..13 {
-        let mut source = MemSource::new(alloc, b"1 4 1 1 4 1", 1, &[read])?;
-        let mut sink = MemSink::new(alloc, 4096, &[])?;
-        assert_eq!(rt;
-            run_plain(alloc, &words, &mut source, &mut sink),
-            5,
-            "{read}"
-        );
-        assert_eq!(rt; sink.bytes(), b"".as_slice(), "{read}");
+    for failing in 1..14 {
+        let reader = OneReadFails {
+            bytes: b"1 4 1 1 4 1",
+            reads: 0,
+            failing,
+        };
+        let mut held = Vec::new(alloc);
+        let status = run_streams(alloc, &words, reader, &mut held).status;
+        let want: (u8, &[u8]) = if failing < 13 {
+            (5, b"")
+        } else {
+            (0, b"optimal\nloss 0\nplan 1\nend\n")
+        };
+        assert_eq!(rt; (status, held.as_slice()), want, "{failing}");
     }
     Ok(())
 }
@@ -38,46 +88,32 @@ fn each_lack_of_room_is_told(rt: HostRuntime) -> Result<(), Fail> {
     ];
     for (input, status, text) in rows {
         for room in 0..text.len() + 1 {
-            let mut source = MemSource::new(alloc, input, 1, &[])?;
-            let mut sink = MemSink::new(alloc, room, &[])?;
+            let mut held = Vec::new(alloc);
+            let writer = LittleRoom {
+                held: &mut held,
+                room,
+            };
+            let found = run_streams(alloc, &words, input, writer).status;
             let want = if room < text.len() { 6 } else { status };
-            assert_eq!(rt;
-                run_plain(alloc, &words, &mut source, &mut sink),
-                want,
-                "{room}"
-            );
-            assert_eq!(rt; sink.bytes(), &text[..room], "{room}");
+            assert_eq!(rt; found, want, "{room}");
+            assert_eq!(rt; held.as_slice(), &text[..room], "{room}");
         }
     }
     Ok(())
 }
 
-// The usage line, where there is less and less room for it.
+// The usage line, where there is less and less room for it in memory, which takes what fits and
+// then nothing.
 #[test]
 fn a_usage_line_is_cut(rt: HostRuntime) -> Result<(), Fail> {
     let alloc = rt.alloc();
     let text = USAGE.as_bytes();
+    let input: &[u8] = b"";
     for room in 0..text.len() {
-        let mut source = MemSource::new(alloc, b"", 1, &[])?;
-        let mut sink = MemSink::new(alloc, room, &[])?;
-        assert_eq!(rt; run_plain(alloc, &[], &mut source, &mut sink), 6, "{room}");
-        assert_eq!(rt; sink.bytes(), &text[..room], "{room}");
+        let mut held = [0; 256];
+        let status = run_streams(alloc, &[], input, &mut held[..room]).status;
+        assert_eq!(rt; status, 6, "{room}");
+        assert_eq!(rt; &held[..room], &text[..room], "{room}");
     }
-    Ok(())
-}
-
-#[test]
-fn serves_the_streams_of_std(rt: HostRuntime) -> Result<(), Fail> {
-    let alloc = rt.alloc();
-    let words = vec![in alloc; String::from_str(alloc, "solve")?]?;
-    let input: &[u8] = b"1 4 1 1 4 1";
-    let mut source = StdSource::new(input);
-    let mut held = Vec::new(alloc);
-    let mut sink = StdSink::new(&mut held);
-    assert_eq!(rt; run_plain(alloc, &words, &mut source, &mut sink), 0);
-    assert_eq!(rt;
-        held.as_slice(),
-        b"optimal\nloss 0\nplan 1\nend\n".as_slice()
-    );
     Ok(())
 }

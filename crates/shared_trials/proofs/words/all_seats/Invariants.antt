@@ -1,8 +1,8 @@
-use Rattle.std.proofs.Common.{◌≡◌, ◌≤◌, ◌+◌, All, vec_len}
+use Rattle.std.proofs.Common.{◌≡◌, ◌≤◌, ◌+◌, All, IsNone, vec_len}
 use Rattle.shared_words.specs.Best.{IsLossSeatOf}
 use Rattle.shared_words.specs.Meter.{IsTicketSeatOf}
 use Rattle.shared_trials.specs.Trials.{AreSeatsOf}
-use Rattle.shared_trials.proofs.words.workers_of.Given as goal
+use Rattle.shared_trials.proofs.words.all_seats.Given as goal
 
 abbrev pub invariant-loop-number : goal.invariant-loop-number
 invariant-loop-number l = record {
@@ -11,7 +11,7 @@ invariant-loop-number l = record {
   losses : l.loss.shares + l.number ≡ 9;
   tickets : l.ticket.shares + l.number ≡ 9;
   spends : l.ticket.spends + l.number ≡ 9;
-  count : vec_len l.workers ≡ l.number;
-  each : All (λ worker. AreSeatsOf l.best l.meter worker.loss worker.ticket
-      × (1 ≤ worker.ticket.spends)) l.workers.items;
+  count : vec_len l.all ≡ l.number;
+  each : All (λ seats. AreSeatsOf l.best l.meter seats.loss seats.ticket
+      × (IsNone seats.past → 1 ≤ seats.ticket.spends)) l.all.items;
 }

@@ -1,10 +1,10 @@
 // Layers of tables of one width one after another: layer `t` has the sets of at most `t` colours.
 
-ghost use Rattle.std.specs.Prelude.{◌≡◌, ℕ, List, [], suc, ◌+◌, ◌-◌, ◌*◌, ◌^◌, ◌<◌, ◌≤◌, ◌⊎◌, ◌≢◌};
+ghost use Rattle.std.specs.Prelude.{◌≡◌, ℕ, List, [], suc, ◌+◌, ◌-◌, ◌*◌, ◌^◌, ◌<◌, ◌≤◌, ◌⊎◌};
 ghost use Rattle.std.specs.Prelude.{length, slice_index_or, pos};
 ghost use Rattle.std.specs.Int.{int_max};
 ghost use Rattle.set_minima.specs.Cells.{cell, IsNear, AreNear};
-ghost use Rattle.least_slacks.specs.Items.{IsStretch, Letting, item_at};
+ghost use Rattle.least_slacks.specs.Items.{IsStretch, Letting};
 ghost use Rattle.least_slacks.specs.Later.{IsLater, IsTableOf, AreLayersOf, IsRunOf, let_to};
 ghost use Rattle.least_slacks.specs.Later.{others_of};
 ghost use Rattle.least_slacks.specs.Parts.{IsWithin, letting_of, out_of};
@@ -12,7 +12,7 @@ ghost use Rattle.mill_model.specs.Limits.{all_prices};
 ghost use Rattle.mill_model.specs.declared.prices.TheConstants.{MAX_PRICE};
 
 use crate::best_prices::{add_run, raise_cells};
-use crate::later_orders::{Item, LaterOrders};
+use crate::later_orders::{LaterOrders, run_end};
 use crate::parts::Part;
 
 /// Copies the layer that begins at `at` into a table.
@@ -196,24 +196,6 @@ pub(crate) fn copy_layers(
     for t in 0..layers {
         put_layer(tables, t * width, width, from, t * apart);
     }
-}
-
-/// The place behind the items that have the colour of the one at `at`.
-fn run_end(items: &[Item], at: usize) -> usize
-    requires { at < length items.now }
-    ensures some { at < result }
-    ensures ends { result ≤ length items.now }
-    ensures alike { (t : ℕ) → at ≤ t → t < result →
-        (item_at items.now t).colour ≡ (item_at items.now at).colour }
-    ensures other { result < length items.now →
-        (item_at items.now result).colour ≢ (item_at items.now at).colour }
-{
-    for t in at + 1..items.len() {
-        if items[t].colour != items[at].colour {
-            return t;
-        }
-    }
-    items.len()
 }
 
 /// Lets the orders of a colour into all layers but the first, where a part asks for it.

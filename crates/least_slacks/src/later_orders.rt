@@ -1,10 +1,10 @@
 // The later orders, colour by colour.
 
-ghost use Rattle.std.specs.Prelude.{◌≡◌, ◌≤◌, ◌*◌, ℕ, IfOk, All, length, map};
+ghost use Rattle.std.specs.Prelude.{◌≡◌, ◌≢◌, ◌<◌, ◌≤◌, ◌*◌, ℕ, IfOk, All, length, map};
 ghost use Rattle.list_laws.specs.Sets.{holds, different};
 ghost use Rattle.mill_model.specs.Slab.{load};
 ghost use Rattle.mill_model.specs.Instance.{IsOrder};
-ghost use Rattle.least_slacks.specs.Items.{AreItems};
+ghost use Rattle.least_slacks.specs.Items.{AreItems, item_at};
 ghost use Rattle.mill_model.specs.declared.order.TheConstants.{MAX_ORDERS};
 
 use mill_model::{Order, OutOfMemory};
@@ -51,6 +51,24 @@ pub(crate) fn by_colour(alloc: Global, rest: &[Order]) -> Result<Vec<Item>, OutO
     }
     items.sort_unstable_by_key(|item| item.colour);
     Ok(items)
+}
+
+/// The place behind the items that have the colour of the one at `at`.
+pub(crate) fn run_end(items: &[Item], at: usize) -> usize
+    requires { at < length items.now }
+    ensures some { at < result }
+    ensures ends { result ≤ length items.now }
+    ensures alike { (t : ℕ) → at ≤ t → t < result →
+        (item_at items.now t).colour ≡ (item_at items.now at).colour }
+    ensures other { result < length items.now →
+        (item_at items.now result).colour ≢ (item_at items.now at).colour }
+{
+    for t in at + 1..items.len() {
+        if items[t].colour != items[at].colour {
+            return t;
+        }
+    }
+    items.len()
 }
 
 /// How many runs of one colour items have: as many as colours, where they stand colour by colour.

@@ -6,6 +6,7 @@ use Rattle.mill_model.specs.declared.order.Order.{Order}
 use Rattle.set_minima.specs.Packs.{IsTable, colour_at}
 use Rattle.set_minima.specs.Joins.{AreOrders}
 use Rattle.set_minima.specs.Cells.{ArePrices, AreLayers}
+use Rattle.set_minima.specs.Reaches.{AreReaches}
 use Rattle.least_slacks.specs.Items.{AreItems, IsRun, Letting, let_in, joined_in, others}
 use Rattle.least_slacks.specs.declared.later_orders.LaterOrders.{LaterOrders}
 use Rattle.mill_model.specs.declared.order.TheConstants.{MAX_ORDERS}
@@ -47,3 +48,6 @@ IsTableOf later allowed own k width cells =
 abbrev pub AreLayersOf : LaterOrders → (ℕ → Bool) → ℕ → ℕ → List ℤ → Type 0
 AreLayersOf later allowed layers width tables =
     AreLayers allowed later.rest.now later.prices.now layers width tables
+
+abbrev pub AreReachesOf : LaterOrders → (ℕ → Bool) → ℕ → ℕ → List ℕ → Type 0
+AreReachesOf later allowed layers width reach = AreReaches allowed later.rest.now layers width reach

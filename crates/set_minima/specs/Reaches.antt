@@ -1,5 +1,5 @@
 -- How heavy sets get that the loads of a table hold.
-use Rattle.std.specs.Prelude.{ℕ, ◌<◌, ◌≤◌, Bool, List, []}
+use Rattle.std.specs.Prelude.{ℕ, ◌<◌, ◌≤◌, Bool, List, [], slice_index_or}
 use Rattle.mill_model.specs.declared.order.Order.{Order}
 use Rattle.set_minima.specs.Packs.{Packs}
 
@@ -9,6 +9,6 @@ IsReach allowed own k rest width reach =
     (l : ℕ) (marks : List Bool) → Packs allowed own k rest l marks → l < width → l ≤ reach
 
 -- the same for each layer: layer t has the sets of at most t colours
-abbrev pub AreReaches : (ℕ → Bool) → List Order → ℕ → ℕ → (ℕ → ℕ) → Type 0
+abbrev pub AreReaches : (ℕ → Bool) → List Order → ℕ → ℕ → List ℕ → Type 0
 AreReaches allowed rest layers width reach =
-    (t : ℕ) → t < layers → IsReach allowed [] t rest width (reach t)
+    (t : ℕ) → t < layers → IsReach allowed [] t rest width (slice_index_or reach t 0)

@@ -19,17 +19,17 @@ returns-clause-best c letting colour k run below here l b =
     let prices = c.args.later.now.prices.now in
     let before = let_in rest c.args.later.now.items.now letting c.args.run.0 in
     let after = let_in rest c.args.later.now.items.now letting c.args.run.1 in
-    let e : cell c.better_layer.new.tables (c.args.t * width + l)
-    ≡ better (cell c.args.tables.now (c.args.t * width + l)) (cell c.add_run.new.table l) =
+    let e : cell c.better_layer.new.tables (c.args.here + l)
+    ≡ better (cell c.args.tables.now (c.args.here + l)) (cell c.add_run.new.table l) =
     ap found (c.better_layer.ensures.here l (omega arith))
-    ∙ found-max (get_or c.args.tables.now (c.args.t * width + l) (pos 0))
+    ∙ found-max (get_or c.args.tables.now (c.args.here + l) (pos 0))
     (get_or c.add_run.new.table l (pos 0)) in
     let copied = λ (i : ℕ) (q : i < length c.copy_layer.new.table).
     subst (λ x. IsBest before [] k rest prices i (found x))
     (sym (c.copy_layer.ensures i (omega arith))) (below i (omega arith)) in
     subst (λ z. IsBest after [] (suc k) rest prices l z) (sym e)
     (layer-end rest before after [] colour run.next refl prices (suc k) l
-    (cell c.args.tables.now (c.args.t * width + l)) (cell c.add_run.new.table l) (here l b)
+    (cell c.args.tables.now (c.args.here + l)) (cell c.add_run.new.table l) (here l b)
     (c.add_run.ensures.best letting colour (suc k) run
     (λ i q. layer-start rest before after [] colour run.next refl prices k i
     (cell c.copy_layer.new.table i) (copied i q)) l (omega arith)))
@@ -38,9 +38,9 @@ pub returns-clause-near : goal.returns-clause-near
 returns-clause-near c n h =
     let width = length c.args.table.now in
     let n1 : length c.copy_layer.new.table ≡ width = c.copy_layer.auto.table in
-    near-layer n (n + (c.args.run.1 - c.args.run.0) * MAX_PRICE) (c.args.t * width)
+    near-layer n (n + (c.args.run.1 - c.args.run.0) * MAX_PRICE) c.args.here
     c.args.tables.now
     c.better_layer.new.tables c.add_run.new.table (omega arith) h
-    (c.add_run.ensures.near n (near-copied n ((c.args.t - 1) * width) c.args.tables.now
+    (c.add_run.ensures.near n (near-copied n c.args.below c.args.tables.now
     c.copy_layer.new.table (λ l b. c.copy_layer.ensures l (omega arith)) h))
     c.better_layer.ensures.here c.better_layer.ensures.other

@@ -251,10 +251,11 @@ fn judge_all(
     judge_keys(slacks, deeper, one, &layers, limits, later, keys, levels);
 }
 
-/// How often so many keys can be halved until there is one.
+/// How often so many keys must be halved until there is one.
 fn halvings(count: usize) -> usize
     ensures few { result ≤ 64 }
     ensures enough { count ≤ 2 ^ result }
+    ensures least { (levels : ℕ) → count ≤ 2 ^ levels → result ≤ levels }
 {
     for levels in 0..64u32 {
         if count <= 1usize << levels {

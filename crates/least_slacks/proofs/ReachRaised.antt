@@ -1,7 +1,9 @@
 -- How far the sets of a layer reach, when the orders of a colour are let in: each order of the run
 -- adds its weight to the sets of the layer below.
-use Rattle.std.proofs.Common.{ℕ, zero, suc, ◌+◌, ◌-◌, ◌<◌, ◌≤◌, ◌≡◌, ◌≢◌, ◌⊎◌, true, false, List, []}
-use Rattle.std.proofs.Common.{◌∷◌, ◌++◌, ◌∙◌, length, set, eqb-true, get_or, take, ℤ, eqb, eq-eqb, refl, sym, ap, subst}
+use Rattle.std.proofs.Common.{ℕ, zero, suc, ◌+◌, ◌-◌, ◌<◌, ◌≤◌, ◌≡◌, ◌≢◌, ◌⊎◌, true, false, List}
+use Rattle.std.proofs.Common.{[]}
+use Rattle.std.proofs.Common.{◌∷◌, ◌∙◌, length, set, eqb-true, get_or, take, ℤ, eqb, eq-eqb}
+use Rattle.std.proofs.Common.{refl, sym, ap, subst}
 use Rattle.std.proofs.Common.{arith, inl, inr, sum_by}
 use Rattle.std.proofs.lemmas.Bool.{cases_lt}
 use Rattle.std.proofs.lemmas.List.{take_more, get_or-set_same, get_or-set_other}
@@ -154,8 +156,8 @@ module _ (rest : List Order) (prices : List ℤ) (same : length prices ≡ lengt
   ]
 
   -- the first layer reaches as far as before, since no set of no colour has the new one
-  pub reached-last : (t : ℕ) → t ≤ 1 → (reach : List ℕ) → Reached t reach → Unreached start t reach →
-      AreReaches (let_in rest items letting end) rest layers width reach
+  pub reached-last : (t : ℕ) → t ≤ 1 → (reach : List ℕ) → Reached t reach →
+      Unreached start t reach → AreReaches (let_in rest items letting end) rest layers width reach
   reached-last t h reach new old s b = elim (cases_lt s t) [
     | inl e ↦ (let z : s ≡ 0 = omega arith in
         rw (old s e) (reach-keep rest (let_in rest items letting at)

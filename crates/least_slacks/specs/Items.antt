@@ -77,7 +77,8 @@ pub record IsRun (rest : List Order) (items : List Item) (letting : Letting) (at
 
 -- what the orders of the first t items weigh together
 abbrev pub carried : List Order → List Item → ℕ → ℕ
-carried rest items t = sum_by (λ item. (slice_index_or rest item.place nobody).weight) (take t items)
+carried rest items t =
+    sum_by (λ item. (slice_index_or rest item.place nobody).weight) (take t items)
 
 -- no order is let in
 abbrev pub no_place : ℕ → Bool

@@ -6,7 +6,7 @@ ghost use Rattle.std.specs.Int.{int_max};
 ghost use Rattle.set_minima.specs.Cells.{cell, IsNear, AreNear};
 ghost use Rattle.least_slacks.specs.Items.{IsStretch, Letting};
 ghost use Rattle.least_slacks.specs.Later.{IsLater, IsTableOf, AreLayersOf, IsRunOf, let_to};
-ghost use Rattle.least_slacks.specs.Later.{AreReachesOf, others_of};
+ghost use Rattle.least_slacks.specs.Later.{AreReachesOf, IsRaised, others_of};
 ghost use Rattle.set_minima.specs.Reaches.{IsReach};
 ghost use Rattle.mill_model.specs.declared.order.TheConstants.{MAX_ORDERS};
 ghost use Rattle.least_slacks.specs.Parts.{IsWithin, letting_of, out_of};
@@ -71,16 +71,8 @@ fn raise_by_run(
     requires order { run.0 ≤ run.1 }
     requires ends { run.1 ≤ length later.now.items.now }
     requires near { AreNear (2 ^ 58) tables.old }
-    ensures best { (letting : Letting) → (colour k : ℕ) →
-        IsRunOf later.now letting run.0 run.1 colour →
-        IsTableOf later.now (let_to later.now letting run.0) [] k (length table.old)
-        (λ l. cell tables.old (below + l)) →
-        IsTableOf later.now (let_to later.now letting run.0) [] (suc k)
-        (length table.old) (λ l. cell tables.old (here + l)) →
-        IsTableOf later.now (let_to later.now letting run.1) [] (suc k)
-        (length table.old) (λ l. cell tables.new (here + l)) }
-    ensures other { (i : ℕ) → i < here ⊎ here + length table.old ≤ i →
-        slice_index_or tables.new i (pos 0) ≡ slice_index_or tables.old i (pos 0) }
+    ensures raised { IsRaised later.now run.0 run.1 (length table.old) below here tables.old
+        tables.new }
     ensures near { (n : ℕ) → AreNear n tables.old →
         AreNear (n + (run.1 - run.0) * MAX_PRICE) tables.new }
 {
@@ -103,16 +95,7 @@ fn raise_by_order(
     requires inside { here + loads ≤ length tables.old }
     requires item { at < length later.now.items.now }
     requires near { AreNear (2 ^ 58) tables.old }
-    ensures best { (letting : Letting) → (colour k : ℕ) →
-        IsRunOf later.now letting at (at + 1) colour →
-        IsTableOf later.now (let_to later.now letting at) [] k loads
-        (λ l. cell tables.old (below + l)) →
-        IsTableOf later.now (let_to later.now letting at) [] (suc k) loads
-        (λ l. cell tables.old (here + l)) →
-        IsTableOf later.now (let_to later.now letting (at + 1)) [] (suc k) loads
-        (λ l. cell tables.new (here + l)) }
-    ensures other { (i : ℕ) → i < here ⊎ here + loads ≤ i →
-        slice_index_or tables.new i (pos 0) ≡ slice_index_or tables.old i (pos 0) }
+    ensures raised { IsRaised later.now at (at + 1) loads below here tables.old tables.new }
     ensures near { (n : ℕ) → AreNear n tables.old → AreNear (n + MAX_PRICE) tables.new }
 {
     let place = later.items[at].place;
@@ -136,16 +119,8 @@ fn raise_loads(
     requires order { run.0 ≤ run.1 }
     requires ends { run.1 ≤ length later.now.items.now }
     requires near { AreNear (2 ^ 58) tables.old }
-    ensures best { (letting : Letting) → (colour k : ℕ) →
-        IsRunOf later.now letting run.0 run.1 colour →
-        IsTableOf later.now (let_to later.now letting run.0) [] k (length table.old)
-        (λ l. cell tables.old (below + l)) →
-        IsTableOf later.now (let_to later.now letting run.0) [] (suc k)
-        (length table.old) (λ l. cell tables.old (here + l)) →
-        IsTableOf later.now (let_to later.now letting run.1) [] (suc k)
-        (length table.old) (λ l. cell tables.new (here + l)) }
-    ensures other { (i : ℕ) → i < here ⊎ here + length table.old ≤ i →
-        slice_index_or tables.new i (pos 0) ≡ slice_index_or tables.old i (pos 0) }
+    ensures raised { IsRaised later.now run.0 run.1 (length table.old) below here tables.old
+        tables.new }
     ensures near { (n : ℕ) → AreNear n tables.old →
         AreNear (n + (run.1 - run.0) * MAX_PRICE) tables.new }
 {

@@ -165,7 +165,8 @@ none-chosen (false ∷ marks) (x ∷ xs) h = none-chosen marks xs (λ i e. h (su
 
 module _ (rest : List Order) (A : ℕ → Bool) (own : List ℕ) (prices : List ℤ)
     (none : (i : ℕ) → A i ≡ false) where
-  pub nobody-in : (k l : ℕ) (m : List Bool) → Packs A own k rest l m → (i : ℕ) → in_set i m ≡ true → ⊥
+  pub nobody-in : (k l : ℕ) (m : List Bool) → Packs A own k rest l m → (i : ℕ) →
+      in_set i m ≡ true → ⊥
   nobody-in k l m p i e = clash (A i) (p.fine i e) (none i)
 
   -- the empty set alone

@@ -1,5 +1,6 @@
 -- How heavy sets get, as more orders are let in: an order adds its weight. So the sets with a new
--- colour reach as far as the sets of a colour less, and its orders, weigh together. Loads beyond the
+-- colour reach as far as the sets of a colour less, and its orders, weigh together. Loads beyond
+-- the
 -- reach have no set, and their numbers need no look.
 use Rattle.std.proofs.Common.{ℕ, suc, ◌+◌, ◌-◌, ◌<◌, ◌≤◌, ◌≡◌, Bool, true, false, List, [], ◌∷◌}
 use Rattle.std.proofs.Common.{◌++◌, ◌∙◌, length, get_or, ℤ, Option, Some, None, refl, ap, arith}

@@ -1,5 +1,5 @@
 -- Run by run: the table has the orders left out that stand before `at`, beside all others.
-use Rattle.std.proofs.Common.{◌≡◌, ◌+◌, ◌-◌, ◌*◌, ◌<◌, length, get_or, pos, arith, sym}
+use Rattle.std.proofs.Common.{◌≡◌, ◌+◌, ◌-◌, ◌*◌, length, get_or, pos, arith, sym}
 use Rattle.set_minima.specs.Cells.{cell}
 use Rattle.set_minima.specs.Joins.{all_places}
 use Rattle.least_slacks.specs.Items.{IsStretch}

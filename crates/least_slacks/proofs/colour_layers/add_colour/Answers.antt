@@ -1,9 +1,9 @@
 -- From the last layer down: a layer is bettered by the one below, which lacks the colour so far.
-use Rattle.std.proofs.Common.{◌≡◌, ℕ, suc, ◌+◌, ◌-◌, ◌*◌, ◌≤◌, ◌∙◌, length, get_or, pos, arith, inl, inr, [], ◌<◌, sym, subst, refl}
+use Rattle.std.proofs.Common.{◌≡◌, ℕ, suc, ◌+◌, ◌-◌, ◌*◌, ◌≤◌, ◌∙◌, length, get_or, pos, arith, inl}
+use Rattle.std.proofs.Common.{[], ◌<◌, sym, subst, refl}
 use Rattle.std.proofs.Common.{mul-le-mul_right, length-set, rules}
 use Rattle.set_minima.proofs.CellNumbers.{near-wider}
 use Rattle.set_minima.proofs.LayersRaised.{done-raised, done-last}
-use Rattle.std.proofs.lemmas.Bool.{cases_lt}
 use Rattle.set_minima.specs.Reaches.{IsReach}
 use Rattle.least_slacks.specs.Items.{Letting}
 use Rattle.least_slacks.specs.Later.{let_to, IsRunOf, AreReachesOf}

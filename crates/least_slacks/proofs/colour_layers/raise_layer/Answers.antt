@@ -1,5 +1,5 @@
 -- Up to the reach the layer is raised; above it there is no set, now as before.
-use Rattle.std.proofs.Common.{◌≡◌, ℕ, ℤ, List, suc, ◌+◌, ◌-◌, ◌*◌, ◌<◌, ◌≤◌, [], length, take, get_or, pos}
+use Rattle.std.proofs.Common.{◌≡◌, ℕ, ℤ, List, suc, ◌+◌, ◌*◌, ◌<◌, [], length, take}
 use Rattle.std.proofs.Common.{arith, sym, subst, inl, inr}
 use Rattle.std.proofs.lemmas.Bool.{cases_lt}
 use Rattle.std.proofs.lemmas.List.{length-take}
@@ -19,8 +19,8 @@ returns-clause-best c letting colour k run reached below here l b =
     let width = length c.args.table.now in
     let at = c.args.t * width in
     let long = front c.args.reach c.args.table.now c.requires.reach in
-    let best = rw long at c.raise_loads.ensures.best in
-    let other = rw long at c.raise_loads.ensures.other in
+    let best = rw long at c.raise_loads.ensures.raised.best in
+    let other = rw long at c.raise_loads.ensures.raised.other in
     elim (cases_lt l (c.args.reach + 1)) [
       | inl q ↦ best letting colour k run (λ i h. below i (omega (arith, c.requires.reach)))
           (λ i h. here i (omega (arith, c.requires.reach))) l q
@@ -33,7 +33,10 @@ returns-clause-best c letting colour k run reached below here l b =
 
 pub returns-clause-other : goal.returns-clause-other
 returns-clause-other c i (inl h) =
-    let other = rw (front c.args.reach c.args.table.now c.requires.reach) at c.raise_loads.ensures.other in other i (inl h)
+    let long = front c.args.reach c.args.table.now c.requires.reach in
+    let other = rw long at c.raise_loads.ensures.raised.other in
+    other i (inl h)
 returns-clause-other c i (inr h) =
-    let other = rw (front c.args.reach c.args.table.now c.requires.reach) at c.raise_loads.ensures.other in
+    let long = front c.args.reach c.args.table.now c.requires.reach in
+    let other = rw long at c.raise_loads.ensures.raised.other in
     other i (inr (omega (arith, c.requires.reach)))

@@ -58,7 +58,8 @@ returns-clause-best c =
     let all = rw v at c.add_colours.ensures.best in
     all (first-reach later part c.requires.first c.args.layers (length c.args.table.now))
     (λ t a l b. best-allowed rest prices no_place (others_of c.args.later.now letting.before) []
-    t l (cell c.copy_layers.new.tables (t * length c.args.table.now + l)) (none-at-first later part c.requires.first)
+    t l (cell c.copy_layers.new.tables (t * length c.args.table.now + l))
+    (none-at-first later part c.requires.first)
     (subst (λ x. IsBest no_place [] t rest prices l (found x))
     (sym (copied t a l b ∙ ap (λ k. get_or c.clear.new.table k (pos 0)) (here t l)))
     (subst (λ z. IsBest no_place [] z rest prices l (cell c.clear.new.table l)) (zero-add t)

@@ -84,11 +84,11 @@ fn raise_by_run(
 /// The same for a run of one order, in one pass over so many loads.
 fn raise_by_order(
     tables: &mut [i64],
-    loads: usize,
     later: &LaterOrders,
     at: usize,
     below: usize,
     here: usize,
+    loads: usize,
 )
     requires later { IsLater later.now }
     requires apart { below + loads ≤ here }
@@ -125,7 +125,7 @@ fn raise_loads(
         AreNear (n + (run.1 - run.0) * MAX_PRICE) tables.new }
 {
     if run.1 == run.0 + 1 {
-        raise_by_order(tables, table.len(), later, run.0, below, here);
+        raise_by_order(tables, later, run.0, below, here, table.len());
     } else {
         raise_by_run(tables, table, later, run, below, here);
     }

@@ -49,7 +49,8 @@ loop-t-preserved c = record {
       (length c.loop-t.table) (length c.args.table.now) (cell c.add_kept.new.table) w
       (c.add_kept.ensures.best out (colour ∷ []) k n
       paid (table-width c.args.packing.now.rest.now c.args.packing.now.prices.now now
-      (colour ∷ []) k (length c.args.table.now) (length c.loop-t.table) (cell c.loop-t.table) (sym w)
+      (colour ∷ []) k (length c.args.table.now) (length c.loop-t.table) (cell c.loop-t.table)
+      (sym w)
       (c.loop-t.invariant.best out colour k run p)));
   near = λ n h l.
       near-wider (n + (c.loop-t.t - c.args.at) * MAX_PRICE + MAX_PRICE)

@@ -1,16 +1,19 @@
 // Layers of tables of one width one after another: layer `t` has the sets of at most `t` colours.
+// These reach no further than the `t` heaviest colours together. So, when a colour is let in, a
+// layer is raised up to the load that its sets reach then; the numbers above say that there is no
+// set, before and after.
 
 ghost use Rattle.std.specs.Prelude.{◌≡◌, ℕ, List, [], suc, ◌+◌, ◌-◌, ◌*◌, ◌^◌, ◌<◌, ◌≤◌, ◌⊎◌};
 ghost use Rattle.std.specs.Prelude.{length, slice_index_or, pos};
 ghost use Rattle.std.specs.Int.{int_max};
 ghost use Rattle.set_minima.specs.Cells.{cell, IsNear, AreNear};
+ghost use Rattle.set_minima.specs.Reaches.{IsReach};
 ghost use Rattle.least_slacks.specs.Items.{IsStretch, Letting};
 ghost use Rattle.least_slacks.specs.Later.{IsLater, IsTableOf, AreLayersOf, IsRunOf, let_to};
 ghost use Rattle.least_slacks.specs.Later.{AreReachesOf, IsRaised, others_of};
-ghost use Rattle.set_minima.specs.Reaches.{IsReach};
-ghost use Rattle.mill_model.specs.declared.order.TheConstants.{MAX_ORDERS};
 ghost use Rattle.least_slacks.specs.Parts.{IsWithin, letting_of, out_of};
 ghost use Rattle.mill_model.specs.Limits.{all_prices};
+ghost use Rattle.mill_model.specs.declared.order.TheConstants.{MAX_ORDERS};
 ghost use Rattle.mill_model.specs.declared.prices.TheConstants.{MAX_PRICE};
 
 use crate::best_prices::{add_run, raise_cells};

@@ -7,7 +7,7 @@ use Rattle.list_laws.specs.Sets.{holds}
 use Rattle.mill_model.specs.declared.order.Order.{Order}
 use Rattle.list_laws.proofs.Tests.{and-left, and-right, either, or-cases, or-left, or-right, clash}
 use Rattle.list_laws.proofs.Tests.{equal-tests}
-use Rattle.set_minima.specs.Packs.{colour_at, IsNext, IsNextColour}
+use Rattle.set_minima.specs.Packs.{colour_at, IsNext}
 use Rattle.set_minima.specs.Joins.{all_but}
 use Rattle.knap_bound.specs.Items.{item_at, AreItems, placed, owned, others, joined_in, let_in}
 use Rattle.knap_bound.specs.Items.{IsStretch, IsRun, no_place}

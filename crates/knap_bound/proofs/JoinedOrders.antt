@@ -1,19 +1,20 @@
 -- One order joins a slab: its load and colours then, and the sets that hold an order which can't.
-use Rattle.std.proofs.Common.{ℕ, zero, suc, ◌+◌, ◌<◌, ◌≡◌, Bool, true, false, cond, ◌||◌, List, [], ◌∷◌}
-use Rattle.std.proofs.Common.{◌++◌, length, get_or, ℤ, Option, None, eqb, refl, sym, ap, ◌∙◌, subst, arith}
+use Rattle.std.proofs.Common.{ℕ, zero, suc, ◌+◌, ◌<◌, ◌≡◌, Bool, true, false, cond, ◌||◌, List, []}
+use Rattle.std.proofs.Common.{◌∷◌}
+use Rattle.std.proofs.Common.{◌++◌, length, get_or, ℤ, Option, None, eqb, refl, sym, ◌∙◌}
+use Rattle.std.proofs.Common.{arith}
 use Rattle.std.proofs.Common.{inl, inr, IsTrue, ◌↔◌, ◌≤◌, leb, leb-true}
 use Rattle.list_laws.specs.Sets.{holds, chosen, sets}
 use Rattle.list_laws.proofs.Among.{Among, Among-unfilter}
 use Rattle.list_laws.proofs.Different.{holds-append}
 use Rattle.list_laws.proofs.Tests.{clash, either}
 use Rattle.mill_model.specs.Bounds.{in_set, least_of, slacks, least_on_with, least_new_with}
-use Rattle.mill_model.specs.Prices.{legal_sets}
 use Rattle.mill_model.specs.Slab.{Mill, legal}
 use Rattle.mill_model.specs.declared.order.Order.{Order}
 use Rattle.mill_laws.proofs.Slacks.{from-slacks}
 use Rattle.slab_rules.specs.OpenSlab.{OpenSlab, Carries, joined}
 use Rattle.set_minima.specs.Packs.{IsTop, nobody}
-use Rattle.set_minima.specs.Joins.{gain, Joins, IsSlab, with_colour}
+use Rattle.set_minima.specs.Joins.{Joins, IsSlab, with_colour}
 use Rattle.set_minima.proofs.Groups.{alone-legal}
 use Rattle.knap_bound.proofs.SlabGains.{same-colours}
 

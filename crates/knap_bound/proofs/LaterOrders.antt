@@ -1,13 +1,13 @@
 -- The orders from a rank on: one after another, and within the limits of an instance.
-use Rattle.std.proofs.Common.{ℕ, zero, suc, ◌+◌, ◌≤◌, ◌≡◌, List, [], ◌∷◌, Some, drop, length, ap, ◌∙◌, arith}
+use Rattle.std.proofs.Common.{ℕ, zero, suc, ◌+◌, ◌≡◌, List, [], ◌∷◌, Some, drop, length, ap}
+use Rattle.std.proofs.Common.{◌∙◌, arith}
 use Rattle.std.proofs.lemmas.List.{length-map, length-drop}
 use Rattle.std.proofs.lemmas.List.Elements.{All-drop, All-map, All-from_recursion}
 use Rattle.std.specs.List.{slice_get}
 use Rattle.mill_model.specs.Charges.{ChargeTable, Reaches}
-use Rattle.mill_model.specs.Instance.{IsOrder, mill_of}
+use Rattle.mill_model.specs.Instance.{IsOrder}
 use Rattle.mill_model.specs.Rank.{Placed}
 use Rattle.mill_model.specs.Slab.{Mill}
-use Rattle.mill_model.specs.declared.order.TheConstants.{MAX_ORDERS}
 use Rattle.order_symmetry.specs.Ranked.{RankedOrders, IsRanked, orders_of}
 use Rattle.order_symmetry.proofs.Limits.{few, largest-high, each-order}
 use Rattle.knap_bound.specs.Later.{later_from}

@@ -1,8 +1,8 @@
--- What the knapsack works on: later orders without the skipped one, tables of their sets, and layers
+-- What the knapsack works on: later orders without the skipped one, tables of their sets, and
+-- layers
 -- of such tables.
-use Rattle.std.specs.Prelude.{ℕ, ◌<◌, ◌≤◌, ◌≡◌, Bool, ℤ, List, Option, length}
-use Rattle.list_laws.specs.Sets.{holds}
-use Rattle.set_minima.specs.Packs.{IsTable, colour_at}
+use Rattle.std.specs.Prelude.{ℕ, ◌≤◌, ◌≡◌, Bool, ℤ, List, Option, length}
+use Rattle.set_minima.specs.Packs.{IsTable}
 use Rattle.set_minima.specs.Joins.{AreOrders}
 use Rattle.set_minima.specs.Cells.{ArePrices, AreLayers}
 use Rattle.knap_bound.specs.Items.{AreItems, IsRun, let_in, joined_in, others}

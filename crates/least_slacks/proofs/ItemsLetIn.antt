@@ -231,6 +231,32 @@ before-end items at end it l s h = elim (cases_lt s at) [
       omega arith)
 ]
 
+-- a run of a colour that wasn't left out joins with all others
+pub other-run-joined : (rest : List Order) (items : List Item) → AreItems rest items →
+    (out : List ℕ) (at end : ℕ) → IsStretch items at end →
+    holds (item_at items at).colour out ≡ false → (i : ℕ) →
+    joined_in rest items out at i ≡ joined_in rest items out end i
+other-run-joined rest items it out at end run n i =
+    let whole : at + (end - at) ≡ end = (let s : at < end = run.some in omega arith) in
+    subst (λ t. joined_in rest items out at i ≡ joined_in rest items out t i) whole
+    (go (end - at) (omega arith))
+  where
+    go : (d : ℕ) → d ≤ end - at →
+        joined_in rest items out at i ≡ joined_in rest items out (at + d) i
+    go zero h =
+        let e : at ≡ at + 0 = omega arith in
+        ap (λ t. joined_in rest items out t i) e
+    go (suc d) h =
+        let t = at + d in
+        let below : t < end = omega arith in
+        let inside : t < length items = (let e : end ≤ length items = run.ends in omega arith) in
+        let e : t + 1 ≡ at + suc d = omega arith in
+        let alike : colour_at rest (item_at items t).place ≡ (item_at items at).colour =
+        sym (it.coloured t inside) ∙ run.alike t (omega arith) below in
+        go d (omega arith)
+        ∙ other-joined rest items it out t inside (ap (λ x. holds x out) alike ∙ n) i
+        ∙ ap (λ s. joined_in rest items out s i) e
+
 module _ (rest : List Order) (items : List Item) (it : AreItems rest items) (letting : Letting)
     (at end : ℕ) (run : IsStretch items at end) where
   abbrev its : ℕ

@@ -91,10 +91,11 @@ near-in-front n whole front behind long near l b =
 
 -- Layers that leave out the colours of keys with the same colours serve each of these.
 pub all-served : (limits : SlabLimits) (later : LaterOrders) (keys : List Key) (levels : ℕ)
-    (shape : Shape) (tables : List ℤ) → IsFilled limits later keys shape tables →
+    (shape : Shape) (reach : List ℕ) (tables : List ℤ) →
+    IsFilled limits later keys shape reach tables →
     AreNearTo (drift levels) (shape.layers * shape.width) tables → NameTheSame limits.most keys →
     All (IsFor limits later shape tables) keys
-all-served limits later keys levels shape tables filled near same k d h = record {
+all-served limits later keys levels shape reach tables filled near same k d h = record {
   narrow = filled.narrow;
   inside = filled.inside;
   near = λ l b.

@@ -5,3 +5,4 @@ mod ColoursCounted
 mod KeysLeftOut
 mod KeysInHalves
 mod NewSlab
+mod ReachRaised

@@ -2,10 +2,10 @@
 use Rattle.std.specs.Prelude.{ℕ, ◌<◌, ◌≤◌, ◌≡◌, Bool, true, false, not, ◌&&◌, ◌||◌, eqb, List}
 use Rattle.std.specs.Prelude.{length}
 use Rattle.std.specs.Prelude.{take, slice_index_or}
-use Rattle.std.specs.List.{list_any}
+use Rattle.std.specs.List.{list_any, sum_by}
 use Rattle.list_laws.specs.Sets.{holds}
 use Rattle.mill_model.specs.declared.order.Order.{Order}
-use Rattle.set_minima.specs.Packs.{colour_at, IsNextColour}
+use Rattle.set_minima.specs.Packs.{nobody, colour_at, IsNextColour}
 use Rattle.least_slacks.specs.declared.later_orders.Item.{Item}
 
 -- an item past the last one
@@ -74,6 +74,11 @@ pub record IsRun (rest : List Order) (items : List Item) (letting : Letting) (at
   pub not_out : holds colour letting.after ≡ false
   pub next :
       IsNextColour rest (let_in rest items letting at) (let_in rest items letting end) colour
+
+-- what the orders of the first t items weigh together
+abbrev pub carried : List Order → List Item → ℕ → ℕ
+carried rest items t =
+    sum_by (λ item. (slice_index_or rest item.place nobody).weight) (take t items)
 
 -- no order is let in
 abbrev pub no_place : ℕ → Bool

@@ -1,11 +1,12 @@
 -- What the knapsack works on: later orders, tables of them, and layers of tables.
-use Rattle.std.specs.Prelude.{ℕ, ◌+◌, ◌*◌, ◌<◌, ◌≤◌, ◌≡◌, Bool, ℤ, List, [], Option, length, map}
+use Rattle.std.specs.Prelude.{ℕ, suc, ◌+◌, ◌<◌, ◌≤◌, ◌≡◌, ◌⊎◌, Bool, ℤ, pos, List, [], Option}
+use Rattle.std.specs.Prelude.{length, map, slice_index_or}
 use Rattle.list_laws.specs.Sets.{holds, different}
 use Rattle.mill_model.specs.Slab.{load}
-use Rattle.mill_model.specs.declared.order.Order.{Order}
 use Rattle.set_minima.specs.Packs.{IsTable, colour_at}
 use Rattle.set_minima.specs.Joins.{AreOrders}
-use Rattle.set_minima.specs.Cells.{ArePrices, AreLayers}
+use Rattle.set_minima.specs.Cells.{cell, ArePrices, AreLayers}
+use Rattle.set_minima.specs.Reaches.{AreReaches}
 use Rattle.least_slacks.specs.Items.{AreItems, IsRun, Letting, let_in, joined_in, others}
 use Rattle.least_slacks.specs.declared.later_orders.LaterOrders.{LaterOrders}
 use Rattle.mill_model.specs.declared.order.TheConstants.{MAX_ORDERS}
@@ -47,3 +48,20 @@ IsTableOf later allowed own k width cells =
 abbrev pub AreLayersOf : LaterOrders → (ℕ → Bool) → ℕ → ℕ → List ℤ → Type 0
 AreLayersOf later allowed layers width tables =
     AreLayers allowed later.rest.now later.prices.now layers width tables
+
+abbrev pub AreReachesOf : LaterOrders → (ℕ → Bool) → ℕ → ℕ → List ℕ → Type 0
+AreReachesOf later allowed layers width reach = AreReaches allowed later.rest.now layers width reach
+
+-- the orders of the items from one place to another are let into the layer that begins at `here`,
+-- over the sets that the one at `below` has for a colour less; so many loads are looked at, and all
+-- else stays
+pub record IsRaised (later : LaterOrders) (at end loads below here : ℕ) (old new : List ℤ) : Type 0
+  where
+    pub best :
+        (letting : Letting) (colour k : ℕ) → IsRunOf later letting at end colour →
+        IsTableOf later (let_to later letting at) [] k loads (λ l. cell old (below + l)) →
+        IsTableOf later (let_to later letting at) [] (suc k) loads (λ l. cell old (here + l)) →
+        IsTableOf later (let_to later letting end) [] (suc k) loads (λ l. cell new (here + l))
+    pub other :
+        (i : ℕ) → i < here ⊎ here + loads ≤ i →
+        slice_index_or new i (pos 0) ≡ slice_index_or old i (pos 0)

@@ -8,7 +8,7 @@ use Rattle.mill_model.specs.Slab.{load}
 use Rattle.mill_model.specs.declared.order.Order.{Order}
 use Rattle.set_minima.specs.Cells.{AreNearTo}
 use Rattle.least_slacks.specs.Items.{Letting}
-use Rattle.least_slacks.specs.Later.{AreLayersOf, others_of}
+use Rattle.least_slacks.specs.Later.{AreLayersOf, AreReachesOf, others_of}
 use Rattle.least_slacks.specs.declared.key.Key.{Key}
 use Rattle.least_slacks.specs.declared.later_orders.LaterOrders.{LaterOrders}
 use Rattle.least_slacks.specs.declared.limits.SlabLimits.{SlabLimits}
@@ -58,7 +58,7 @@ drift levels = (65 - levels) * (9 * all_prices)
 
 -- layers for some keys
 pub record IsFilled (limits : SlabLimits) (later : LaterOrders) (keys : List Key) (shape : Shape)
-    (tables : List ℤ)
+    (reach : List ℕ) (tables : List ℤ)
     : Type 0 where
   pub few : shape.layers ≤ limits.most + 1
   pub some : 0 < shape.width
@@ -67,6 +67,8 @@ pub record IsFilled (limits : SlabLimits) (later : LaterOrders) (keys : List Key
   pub serves : ServesAll limits later shape keys
   pub filled :
       AreLayersOf later (others_of later (out_of limits.most keys)) shape.layers shape.width tables
+  pub reached :
+      AreReachesOf later (others_of later (out_of limits.most keys)) shape.layers shape.width reach
 
 -- layers for one key, with small numbers
 pub record IsFor (limits : SlabLimits) (later : LaterOrders) (shape : Shape) (tables : List ℤ)

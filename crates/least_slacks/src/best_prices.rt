@@ -6,12 +6,12 @@ ghost use Rattle.list_laws.specs.Sets.{holds};
 ghost use Rattle.set_minima.specs.Packs.{better, with_price, colour_at, IsNext};
 ghost use Rattle.set_minima.specs.Joins.{all_places};
 ghost use Rattle.set_minima.specs.Cells.{cell, found, IsNear, AreNear, IsSmall};
-ghost use Rattle.least_slacks.specs.Items.{Letting};
+ghost use Rattle.least_slacks.specs.Items.{IsStretch, Letting, item_at};
 ghost use Rattle.least_slacks.specs.Later.{IsLater, IsTableOf, IsRunOf, HaveSame, let_to};
 ghost use Rattle.least_slacks.specs.Later.{joined_to, others_of};
 ghost use Rattle.mill_model.specs.declared.prices.TheConstants.{MAX_PRICE};
 
-use crate::later_orders::{Item, LaterOrders, has_colour};
+use crate::later_orders::{Item, LaterOrders, has_colour, run_end};
 
 /// Stands in a table where there is no set.
 pub(crate) const NOTHING: i64 = -4_611_686_018_427_387_904;
@@ -108,22 +108,40 @@ pub(crate) fn add_run(table: &mut [i64], later: &LaterOrders, at: usize, end: us
     }
 }
 
-/// Lets the order of an item into a table, where its colour was left out.
-fn consider(table: &mut [i64], later: &LaterOrders, out: &[u16], t: usize)
+/// Lets the orders of a run into a table of a slab that has its colour.
+fn add_own_run(table: &mut [i64], later: &LaterOrders, at: usize, end: usize)
     requires later { IsLater later.now }
-    requires here { t < length later.now.items.now }
-    requires near { AreNear (2 ^ 59) table.old }
+    requires stretch { IsStretch later.now.items.now at end }
+    requires near { AreNear (2 ^ 58) table.old }
+    ensures best { (out own : List ℕ) → (k : ℕ) → HaveSame later.now own out →
+        holds (item_at later.now.items.now at).colour out ≡ true →
+        IsTableOf later.now (joined_to later.now out at) own k (length table.old)
+        (cell table.old) →
+        IsTableOf later.now (joined_to later.now out end) own k (length table.old)
+        (cell table.new) }
+    ensures near { (n : ℕ) → AreNear n table.old →
+        AreNear (n + (end - at) * MAX_PRICE) table.new }
+{
+    for t in at..end {
+        add_item(table, later, later.items[t]);
+    }
+}
+
+/// Lets the orders of a run into a table, where their colour was left out.
+fn add_run_left_out(table: &mut [i64], later: &LaterOrders, out: &[u16], at: usize, end: usize)
+    requires later { IsLater later.now }
+    requires stretch { IsStretch later.now.items.now at end }
+    requires near { AreNear (2 ^ 58) table.old }
     ensures best { (own : List ℕ) → (k : ℕ) → HaveSame later.now own out.now →
-        IsTableOf later.now (joined_to later.now out.now t) own k
+        IsTableOf later.now (joined_to later.now out.now at) own k
         (length table.old) (cell table.old) →
-        IsTableOf later.now (joined_to later.now out.now (t + 1)) own k
+        IsTableOf later.now (joined_to later.now out.now end) own k
         (length table.old) (cell table.new) }
     ensures near { (n : ℕ) → AreNear n table.old →
-        AreNear (n + MAX_PRICE) table.new }
+        AreNear (n + (end - at) * MAX_PRICE) table.new }
 {
-    let item = later.items[t];
-    if has_colour(out, item.colour) {
-        add_item(table, later, item);
+    if has_colour(out, later.items[at].colour) {
+        add_own_run(table, later, at, end);
     }
 }
 
@@ -137,7 +155,10 @@ pub(crate) fn add_left_out(table: &mut [i64], later: &LaterOrders, out: &[u16])
         IsTableOf later.now all_places own k (length table.old) (cell table.new) }
     ensures near { AreNear 300000000000000000 table.new }
 {
-    for t in 0..later.items.len() {
-        consider(table, later, out, t);
+    let mut at = 0;
+    while at < later.items.len() {
+        let end = run_end(later.items, at);
+        add_run_left_out(table, later, out, at, end);
+        at = end;
     }
 }

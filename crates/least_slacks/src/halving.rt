@@ -13,7 +13,7 @@ ghost use Rattle.mill_model.specs.Prices.{valid};
 ghost use Rattle.mill_model.specs.declared.order.TheConstants.{MAX_ORDERS};
 ghost use Rattle.set_minima.specs.Cells.{AreNear, AreNearTo};
 ghost use Rattle.least_slacks.specs.Keys.{AreLeast, HasRoom, IsInside, new_slab};
-ghost use Rattle.least_slacks.specs.Later.{IsLater, AreLayersOf, others_of};
+ghost use Rattle.least_slacks.specs.Later.{IsLater, AreLayersOf, AreReachesOf, others_of};
 ghost use Rattle.least_slacks.specs.Limits.{mill_within};
 ghost use Rattle.least_slacks.specs.Parts.{IsFilled, IsWithin, ServesAll, drift, out_of};
 
@@ -43,20 +43,23 @@ fn fill_layers(
     later: &LaterOrders,
     part: &Part,
     layers: usize,
-)
+) -> [usize; 9]
     requires later { IsLater later.now }
     requires shape { length tables.old ≡ layers * length table.old }
     requires layers { layers ≤ 9 }
     requires some { 0 < length table.old }
+    requires narrow { length table.old ≤ 20001 }
     requires first { part.now.first ≡ true }
     requires within { IsWithin part.now }
     ensures best { AreLayersOf later.now (others_of later.now (out_of part.now.most
         part.now.keys.now)) layers (length table.old) tables.new }
+    ensures reach { AreReachesOf later.now (others_of later.now (out_of part.now.most
+        part.now.keys.now)) layers (length table.old) result }
     ensures near { AreNear (9 * all_prices) tables.new }
 {
     clear(table);
     copy_layers(tables, table.len(), layers, table, 0);
-    add_colours(tables, table, later, part, layers);
+    add_colours(tables, table, later, part, layers, [0; 9])
 }
 
 /// Fills the first layers for all keys.
@@ -66,12 +69,12 @@ fn fill_first(
     limits: &SlabLimits,
     later: &LaterOrders,
     keys: &[Key],
-) -> Shape
+) -> (Shape, [usize; 9])
     requires later { IsLater later.now }
     requires one { length one.old ≡ limits.now.largest + 1 }
     requires room { (limits.now.most + 1) * (limits.now.largest + 1) ≤ length tables.old }
-    ensures filled { IsFilled limits.now later.now keys.now result tables.new }
-    ensures near { AreNearTo (9 * all_prices) (result.layers * result.width) tables.new }
+    ensures filled { IsFilled limits.now later.now keys.now result.0 result.1 tables.new }
+    ensures near { AreNearTo (9 * all_prices) (result.0.layers * result.0.width) tables.new }
 {
     let shape = shape_for(keys, limits, later);
     let part = Part {
@@ -81,8 +84,8 @@ fn fill_first(
         most: limits.most,
     };
     let front = &mut tables[..shape.layers * shape.width];
-    fill_layers(front, &mut one[..shape.width], later, &part, shape.layers);
-    shape
+    let reach = fill_layers(front, &mut one[..shape.width], later, &part, shape.layers);
+    (shape, reach)
 }
 
 /// Fills layers for a part of keys from those for the whole.
@@ -93,10 +96,12 @@ fn refill_layers(
     later: &LaterOrders,
     part: &Part,
     layers: usize,
-)
+) -> [usize; 9]
     requires later { IsLater later.now }
     requires shape { length tables.old ≡ layers * length table.old }
     requires layers { layers ≤ 9 }
+    requires some { 0 < length table.old }
+    requires narrow { length table.old ≤ 20001 }
     requires part { part.now.first ≡ false }
     requires within { IsWithin part.now }
     requires deep { layers ≤ from.now.shape.layers }
@@ -104,15 +109,21 @@ fn refill_layers(
     requires inside { from.now.shape.layers * from.now.shape.width ≤ length from.now.tables.now }
     requires near { AreNearTo 100000000000000000 (from.now.shape.layers * from.now.shape.width)
         from.now.tables.now }
-    ensures best { AreLayersOf later.now (others_of later.now (out_of part.now.most
+    ensures best { AreReachesOf later.now (others_of later.now (out_of part.now.most
+        part.now.whole.now)) from.now.shape.layers from.now.shape.width from.now.reach →
+        AreLayersOf later.now (others_of later.now (out_of part.now.most
         part.now.whole.now)) from.now.shape.layers from.now.shape.width from.now.tables.now →
         AreLayersOf later.now (others_of later.now (out_of part.now.most part.now.keys.now)) layers
         (length table.old) tables.new }
+    ensures reach { AreReachesOf later.now (others_of later.now (out_of part.now.most
+        part.now.whole.now)) from.now.shape.layers from.now.shape.width from.now.reach →
+        AreReachesOf later.now (others_of later.now (out_of part.now.most part.now.keys.now))
+        layers (length table.old) result }
     ensures near { (n : ℕ) → AreNearTo n (from.now.shape.layers * from.now.shape.width)
         from.now.tables.now → AreNear (n + 9 * all_prices) tables.new }
 {
     copy_layers(tables, table.len(), layers, from.tables, from.shape.width);
-    add_colours(tables, table, later, part, layers);
+    add_colours(tables, table, later, part, layers, from.reach)
 }
 
 /// Fills layers for some keys from those for more keys.
@@ -123,7 +134,7 @@ fn fill_part(
     limits: &SlabLimits,
     later: &LaterOrders,
     part: &Part,
-) -> Shape
+) -> (Shape, [usize; 9])
     requires later { IsLater later.now }
     requires one { length one.old ≡ limits.now.largest + 1 }
     requires room { (limits.now.most + 1) * (limits.now.largest + 1) ≤ length tables.old }
@@ -131,20 +142,20 @@ fn fill_part(
     requires within { IsWithin part.now }
     requires serves { ServesAll limits.now later.now from.now.shape part.now.keys.now }
     requires filled { IsFilled limits.now later.now part.now.whole.now from.now.shape
-        from.now.tables.now }
+        from.now.reach from.now.tables.now }
     requires near { AreNearTo 100000000000000000 (from.now.shape.layers * from.now.shape.width)
         from.now.tables.now }
-    ensures filled { IsFilled limits.now later.now part.now.keys.now result tables.new }
+    ensures filled { IsFilled limits.now later.now part.now.keys.now result.0 result.1 tables.new }
     ensures near { (n : ℕ) → AreNearTo n (from.now.shape.layers * from.now.shape.width)
         from.now.tables.now →
-        AreNearTo (n + 9 * all_prices) (result.layers * result.width) tables.new }
+        AreNearTo (n + 9 * all_prices) (result.0.layers * result.0.width) tables.new }
 {
     let need = shape_for(part.keys, limits, later);
     let layers = need.layers.min(from.shape.layers);
     let width = need.width.min(from.shape.width);
     let front = &mut tables[..layers * width];
-    refill_layers(front, &mut one[..width], from, later, part, layers);
-    Shape { layers, width }
+    let reach = refill_layers(front, &mut one[..width], from, later, part, layers);
+    (Shape { layers, width }, reach)
 }
 
 /// The least slack of the group of each key, from layers for all of them. `levels` is how often
@@ -164,7 +175,7 @@ fn judge_keys(
     requires stack { levels * ((limits.now.most + 1) * (limits.now.largest + 1))
         ≤ length stack.old }
     requires filled { IsFilled limits.now later.now keys.now layers.now.shape
-        layers.now.tables.now }
+        layers.now.reach layers.now.tables.now }
     requires near { AreNearTo (drift levels) (layers.now.shape.layers * layers.now.shape.width)
         layers.now.tables.now }
     requires keys { All (IsInside limits.now) keys.now }
@@ -186,9 +197,13 @@ fn judge_keys(
         first: false,
         most,
     };
-    let shape = fill_part(here, one, layers, limits, later, &first_part);
+    let (shape, reach) = fill_part(here, one, layers, limits, later, &first_part);
     let tables = &here[..];
-    let half = Layers { tables, shape };
+    let half = Layers {
+        tables,
+        shape,
+        reach,
+    };
     judge_keys(first, deeper, one, &half, limits, later, low, levels - 1);
     let second_part = Part {
         keys: high,
@@ -196,9 +211,13 @@ fn judge_keys(
         first: false,
         most,
     };
-    let shape = fill_part(here, one, layers, limits, later, &second_part);
+    let (shape, reach) = fill_part(here, one, layers, limits, later, &second_part);
     let tables = &here[..];
-    let half = Layers { tables, shape };
+    let half = Layers {
+        tables,
+        shape,
+        reach,
+    };
     judge_keys(second, deeper, one, &half, limits, later, high, levels - 1);
 }
 
@@ -222,16 +241,21 @@ fn judge_all(
     ensures { AreLeast limits.now later.now.rest.now later.now.prices.now keys.now slacks.new }
 {
     let (here, deeper) = stack.split_at_mut((limits.most + 1) * (limits.largest + 1));
-    let shape = fill_first(here, one, limits, later, keys);
+    let (shape, reach) = fill_first(here, one, limits, later, keys);
     let tables = &here[..];
-    let layers = Layers { tables, shape };
+    let layers = Layers {
+        tables,
+        shape,
+        reach,
+    };
     judge_keys(slacks, deeper, one, &layers, limits, later, keys, levels);
 }
 
-/// How often so many keys can be halved until there is one.
+/// How often so many keys must be halved until there is one.
 fn halvings(count: usize) -> usize
     ensures few { result ≤ 64 }
     ensures enough { count ≤ 2 ^ result }
+    ensures least { (levels : ℕ) → count ≤ 2 ^ levels → result ≤ levels }
 {
     for levels in 0..64u32 {
         if count <= 1usize << levels {

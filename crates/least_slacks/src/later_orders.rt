@@ -1,10 +1,11 @@
 // The later orders, colour by colour.
 
-ghost use Rattle.std.specs.Prelude.{◌≡◌, ◌≤◌, ◌*◌, ℕ, IfOk, All, length, map};
+ghost use Rattle.std.specs.Prelude.{◌≡◌, ◌≢◌, ◌<◌, ◌≤◌, ◌+◌, ◌*◌, ◌^◌, ℕ, IfOk, All, length, map};
 ghost use Rattle.list_laws.specs.Sets.{holds, different};
 ghost use Rattle.mill_model.specs.Slab.{load};
 ghost use Rattle.mill_model.specs.Instance.{IsOrder};
-ghost use Rattle.least_slacks.specs.Items.{AreItems};
+ghost use Rattle.least_slacks.specs.Items.{AreItems, carried, item_at};
+ghost use Rattle.least_slacks.specs.Later.{IsLater};
 ghost use Rattle.mill_model.specs.declared.order.TheConstants.{MAX_ORDERS};
 
 use mill_model::{Order, OutOfMemory};
@@ -51,6 +52,42 @@ pub(crate) fn by_colour(alloc: Global, rest: &[Order]) -> Result<Vec<Item>, OutO
     }
     items.sort_unstable_by_key(|item| item.colour);
     Ok(items)
+}
+
+/// The place behind the items that have the colour of the one at `at`.
+pub(crate) fn run_end(items: &[Item], at: usize) -> usize
+    requires { at < length items.now }
+    ensures some { at < result }
+    ensures ends { result ≤ length items.now }
+    ensures alike { (t : ℕ) → at ≤ t → t < result →
+        (item_at items.now t).colour ≡ (item_at items.now at).colour }
+    ensures other { result < length items.now →
+        (item_at items.now result).colour ≢ (item_at items.now at).colour }
+{
+    for t in at + 1..items.len() {
+        if items[t].colour != items[at].colour {
+            return t;
+        }
+    }
+    items.len()
+}
+
+impl LaterOrders<'_> {
+    /// What the orders of the items from one place to another weigh together.
+    pub(crate) fn run_weight(&self, run: (usize, usize)) -> usize
+        requires later { IsLater self.now }
+        requires order { run.0 ≤ run.1 }
+        requires ends { run.1 ≤ length self.now.items.now }
+        ensures is { carried self.now.rest.now self.now.items.now run.0 + result
+            ≡ carried self.now.rest.now self.now.items.now run.1 }
+        ensures small { result ≤ MAX_ORDERS * 2 ^ 32 }
+    {
+        let mut weight = 0;
+        for t in run.0..run.1 {
+            weight += self.rest[self.items[t].place].weight as usize;
+        }
+        weight
+    }
 }
 
 /// How many runs of one colour items have: as many as colours, where they stand colour by colour.

@@ -76,11 +76,12 @@ pub(crate) struct Joined {
     pub(crate) reach: usize,
 }
 
-/// Layers of tables that serve some keys.
+/// Layers of tables that serve some keys, and the load up to which each may have sets.
 #[derive(Drop)]
 pub(crate) struct Layers<'a> {
     pub(crate) tables: &'a [i64],
     pub(crate) shape: Shape,
+    pub(crate) reach: [usize; 9],
 }
 
 /// Makes a table that of a slab which has the colours that were left out, from the layer that

@@ -188,7 +188,7 @@ module _ (rest : List Order) (prices : List ℤ) (before after : ℕ → Bool) (
   -- one layer more from above
   pub done-raised : (top t : ℕ) → suc t ≡ top → 1 ≤ t → top ≤ layers → (tables new : List ℤ) →
       Done top tables → Old top tables →
-      ((k : ℕ) →
+      ((k : ℕ) → suc k ≡ t →
       IsTable before [] k rest prices width
       (λ l. cell tables ((t - 1) * width + l)) →
       IsTable before [] (suc k) rest prices width
@@ -203,7 +203,7 @@ module _ (rest : List Order) (prices : List ℤ) (before after : ℕ → Bool) (
       done-more t tables new (omega arith) d'
       (subst (λ z. IsTable after [] z rest prices width
       (λ l. cell new (t * width + l))) s
-      (best (t - 1) (old-layer top tables o (t - 1) (omega arith) (omega arith))
+      (best (t - 1) s (old-layer top tables o (t - 1) (omega arith) (omega arith))
       (subst (λ z. IsTable before [] z rest prices width
       (λ l. cell tables (t * width + l))) (sym s)
       (old-layer top tables o t (omega arith) (omega arith))))) other

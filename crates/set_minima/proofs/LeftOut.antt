@@ -3,20 +3,20 @@
 -- how many loads are.
 use Rattle.std.proofs.Common.{ℕ, suc, ◌+◌, ◌-◌, ◌<◌, ◌≤◌, ◌≡◌, ◌⊎◌, Bool, true, false, ◌||◌, List}
 use Rattle.std.proofs.Common.{[], ◌∷◌, ◌++◌, length, map, get_or, ℤ, pos, ◌≤ℤ◌, Option, Some, None}
-use Rattle.std.proofs.Common.{eqb, eq-eqb, refl, sym, ap, subst, ◌∙◌, arith, inl, inr, cond}
+use Rattle.std.proofs.Common.{eqb, eq-eqb, refl, sym, ap, subst, arith, inl, inr}
 use Rattle.std.proofs.lemmas.Int.{ints}
 use Rattle.std.specs.Int.{int_max}
 use Rattle.list_laws.specs.Sets.{chosen, int_sum, holds, different}
 use Rattle.mill_model.specs.Slab.{load}
 use Rattle.mill_model.specs.declared.order.Order.{Order}
-use Rattle.list_laws.proofs.Tests.{either, or-cases, or-left, or-right}
+use Rattle.list_laws.proofs.Tests.{or-cases, or-left, or-right}
 use Rattle.list_laws.proofs.Different.{different-mono, different-length}
 use Rattle.set_minima.specs.Packs.{nobody, colour_at, colours_in, Packs, IsTop, IsBest, IsNext}
 use Rattle.set_minima.specs.Packs.{IsNextColour, better, with_price}
 use Rattle.set_minima.specs.Joins.{gain, Joins, Packed}
 use Rattle.set_minima.proofs.OneColour.{layer-start, layer-end}
 use Rattle.set_minima.proofs.OneOrder.{best-added, best-heavy}
-use Rattle.set_minima.proofs.Tops.{none-some, some-same, top-same}
+use Rattle.set_minima.proofs.Tops.{top-same}
 
 -- Colours are paid for.
 

@@ -12,3 +12,4 @@ pub mod CellNumbers
 pub mod OneCell
 pub mod LayersRaised
 pub mod WholeTables
+pub mod ReachMore

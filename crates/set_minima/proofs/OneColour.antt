@@ -27,7 +27,7 @@ module _ (rest : List Order) (A A' : ℕ → Bool) (own : List ℕ) (c : ℕ)
       omega arith
 
   -- no set of the old places has the new colour
-  lacks : (k l : ℕ) (own' : List ℕ) (marks : List Bool) → Packs A own' k rest l marks →
+  pub lacks : (k l : ℕ) (own' : List ℕ) (marks : List Bool) → Packs A own' k rest l marks →
       holds c (own ++ colours_in marks rest) ≡ false
   lacks k l own' marks p = go (holds c (own ++ colours_in marks rest)) refl
     where
@@ -55,7 +55,7 @@ module _ (rest : List Order) (A A' : ℕ → Bool) (own : List ℕ) (c : ℕ)
       record { long = p.long; weighs = p.weighs; fine = p.fine; few = omega arith })) h
 
   -- a set without the new colour has old places alone
-  old-places : (k l : ℕ) (own' : List ℕ) (marks : List Bool) → Packs A' own' k rest l marks →
+  pub old-places : (k l : ℕ) (own' : List ℕ) (marks : List Bool) → Packs A' own' k rest l marks →
       holds c (colours_in marks rest) ≡ false → (i : ℕ) → in_set i marks ≡ true → A i ≡ true
   old-places k l own' marks p f i e =
       let b : i < length rest = inside l k i A' own' marks p e in
@@ -102,22 +102,19 @@ module _ (rest : List Order) (A A' : ℕ → Bool) (own : List ℕ) (c : ℕ)
       })
       h q
 
-  -- with no colour to spare nothing changes
-  pub layer-keep : (prices : List ℤ) (few l : ℕ) (b : Option ℤ) → few ≡ different own →
-      IsBest A own few rest prices l b → IsBest A' own few rest prices l b
-  layer-keep prices few l b e h =
-      top-same _ _ _ b (λ m p. wider few l own m p)
-      (λ m p. record {
-        long = p.long;
-        weighs = p.weighs;
-        fine = old-places few l own m p (free m p (holds c (colours_in m rest)) refl);
-        few = p.few;
-      }) h
+  -- with no colour to spare no set has the new colour
+  pub layer-free : (few l : ℕ) → few ≡ different own → (m : List Bool) →
+      Packs A' own few rest l m → Packs A own few rest l m
+  layer-free few l e m p = record {
+    long = p.long;
+    weighs = p.weighs;
+    fine = old-places few l own m p (free (holds c (colours_in m rest)) refl);
+    few = p.few;
+  }
     where
-      free : (m : List Bool) → Packs A' own few rest l m → (v : Bool) →
-          holds c (colours_in m rest) ≡ v → holds c (colours_in m rest) ≡ false
-      free m p false t = t
-      free m p true t =
+      free : (v : Bool) → holds c (colours_in m rest) ≡ v → holds c (colours_in m rest) ≡ false
+      free false t = t
+      free true t =
           let d : different (c ∷ own) ≤ different (own ++ colours_in m rest) =
           different-mono (c ∷ own) (own ++ colours_in m rest)
           (λ x q. elim (or-cases (eqb x c) (holds x own) q) [
@@ -127,6 +124,12 @@ module _ (rest : List Order) (A A' : ℕ → Bool) (own : List ℕ) (c : ℕ)
           let n : suc (different own) ≤ different (own ++ colours_in m rest) = rw not-own at d in
           let f : different (own ++ colours_in m rest) ≤ few = p.few in
           absurd (omega arith)
+
+  -- so nothing changes
+  pub layer-keep : (prices : List ℤ) (few l : ℕ) (b : Option ℤ) → few ≡ different own →
+      IsBest A own few rest prices l b → IsBest A' own few rest prices l b
+  layer-keep prices few l b e h =
+      top-same _ _ _ b (λ m p. wider few l own m p) (λ m p. layer-free few l e m p) h
 
 -- The first tables.
 
@@ -153,7 +156,7 @@ layer-spread rest A own prices few more l b e paid h =
         ]) in
         omega arith
 
-none-chosen : {X : Type 0} (marks : List Bool) (xs : List X) →
+pub none-chosen : {X : Type 0} (marks : List Bool) (xs : List X) →
     ((i : ℕ) → in_set i marks ≡ true → ⊥) → chosen marks xs ≡ []
 none-chosen [] xs h = refl
 none-chosen (m ∷ marks) [] h = refl
@@ -162,7 +165,8 @@ none-chosen (false ∷ marks) (x ∷ xs) h = none-chosen marks xs (λ i e. h (su
 
 module _ (rest : List Order) (A : ℕ → Bool) (own : List ℕ) (prices : List ℤ)
     (none : (i : ℕ) → A i ≡ false) where
-  nobody-in : (k l : ℕ) (m : List Bool) → Packs A own k rest l m → (i : ℕ) → in_set i m ≡ true → ⊥
+  pub nobody-in : (k l : ℕ) (m : List Bool) → Packs A own k rest l m → (i : ℕ) →
+      in_set i m ≡ true → ⊥
   nobody-in k l m p i e = clash (A i) (p.fine i e) (none i)
 
   -- the empty set alone

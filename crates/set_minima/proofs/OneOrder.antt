@@ -61,7 +61,7 @@ module _ (rest : List Order) where
     abbrev Holding : ℕ → List Bool → Type 0
     Holding l marks = Packs A' own k rest l marks × (in_set j marks ≡ true)
 
-    without-it : (l : ℕ) (marks : List Bool) → Packs A' own k rest l marks →
+    pub without-it : (l : ℕ) (marks : List Bool) → Packs A' own k rest l marks →
         in_set j marks ≡ false → Packs A own k rest l marks
     without-it l marks p f = record {
       long = p.long;
@@ -76,7 +76,7 @@ module _ (rest : List Order) where
     widened : (l : ℕ) (marks : List Bool) → Packs A own k rest l marks → Packs A' own k rest l marks
     widened l marks p = packs-allowed A A' own k l marks (λ i b t. next.kept i t) p
 
-    weight-of : (l : ℕ) (marks : List Bool) → Holding l marks →
+    pub weight-of : (l : ℕ) (marks : List Bool) → Holding l marks →
         l ≡ w + load (chosen (off marks) rest)
     weight-of l marks q =
         let b : j < length marks = in-set-below j marks q.1 in
@@ -84,7 +84,7 @@ module _ (rest : List Order) where
         load-place j marks rest b here in
         sym q.0.weighs ∙ ap (λ m. load (chosen m rest)) (sym (marked j marks q.1)) ∙ e
 
-    taken-off : (l : ℕ) (marks : List Bool) → Holding l marks →
+    pub taken-off : (l : ℕ) (marks : List Bool) → Holding l marks →
         Packs A own k rest (l - w) (off marks)
         × (int_sum (chosen marks prices) ≡ y +ℤ int_sum (chosen (off marks) prices))
     taken-off l marks q =

@@ -1,6 +1,7 @@
 -- The numbers of a table: the best prices of sets by load. A very low number stands where there is
 -- no set.
-use Rattle.std.specs.Prelude.{ℕ, ◌+◌, ◌*◌, ◌<◌, ◌⊎◌, Bool, cond, List, [], ℤ, pos, neg_ℤ, ◌-ℤ◌, ◌+ℤ◌}
+use Rattle.std.specs.Prelude.{ℕ, ◌+◌, ◌*◌, ◌<◌, ◌⊎◌, Bool, cond, List, [], ℤ, pos, neg_ℤ, ◌-ℤ◌}
+use Rattle.std.specs.Prelude.{◌+ℤ◌}
 use Rattle.std.specs.Prelude.{◌≤ℤ◌, int_lt, Option, Some, None, slice_index_or}
 use Rattle.mill_model.specs.declared.order.Order.{Order}
 use Rattle.mill_model.specs.declared.prices.TheConstants.{MAX_PRICE}

@@ -1,3 +1,4 @@
 pub mod Packs
 pub mod Joins
 pub mod Cells
+pub mod Reaches

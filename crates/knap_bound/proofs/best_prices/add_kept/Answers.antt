@@ -1,7 +1,6 @@
-use Rattle.std.proofs.Common.{◌≡◌, ◌≢◌, ◌+◌, true, false, not, eqb, eq-eqb, ne_eqb, get_or, pos}
+use Rattle.std.proofs.Common.{◌+◌, get_or, pos}
 use Rattle.std.proofs.Common.{length, arith}
 use Rattle.set_minima.specs.Cells.{cell}
-use Rattle.set_minima.specs.Joins.{all_but}
 use Rattle.mill_model.specs.declared.prices.TheConstants.{MAX_PRICE}
 use Rattle.knap_bound.specs.Items.{item_at}
 use Rattle.knap_bound.specs.Packing.{let_to}

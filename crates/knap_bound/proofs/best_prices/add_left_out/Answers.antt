@@ -13,7 +13,8 @@ pub consider-requires-clause-near : goal.consider-requires-clause-near
 consider-requires-clause-near c l =
     near-wider (200000000000000000 + c.loop-t.t * MAX_PRICE) 576460752303423488
     (get_or c.loop-t.table l (pos 0))
-    (omega (arith, c.requires.packing.few, c.requires.packing.sorted.count)) (c.loop-t.invariant.near l)
+    (omega (arith, c.requires.packing.few, c.requires.packing.sorted.count))
+    (c.loop-t.invariant.near l)
 
 pub loop-t-init : goal.loop-t-init
 loop-t-init c = record {
@@ -56,8 +57,9 @@ returns-clause-best c k p =
     (joined_to c.args.packing.now c.args.out.now c.loop-t.t)
     (all_but c.args.packing.now.skip) c.args.out.now k (length c.args.table.now)
     (cell c.loop-t.table)
-    (λ i b. all-joined c.args.packing.now.rest.now c.args.packing.now.items.now c.requires.packing.sorted
-    c.args.out.now c.args.packing.now.skip c.loop-t.t i (omega (arith, c.loop-t-test.false)) b) (c.loop-t.invariant.best k p)
+    (λ i b. all-joined c.args.packing.now.rest.now c.args.packing.now.items.now
+    c.requires.packing.sorted c.args.out.now c.args.packing.now.skip c.loop-t.t i
+    (omega (arith, c.loop-t-test.false)) b) (c.loop-t.invariant.best k p)
 
 pub returns-clause-near : goal.returns-clause-near
 returns-clause-near c l =

@@ -8,7 +8,6 @@ use Rattle.set_minima.specs.Cells.{cell}
 use Rattle.knap_bound.specs.Items.{item_at}
 use Rattle.knap_bound.specs.Packing.{let_to, IsTableOf}
 use Rattle.set_minima.proofs.CellNumbers.{near-wider}
-use Rattle.knap_bound.proofs.ItemsLetIn.{next-let_in}
 use Rattle.set_minima.proofs.WholeTables.{table-width}
 use Rattle.mill_model.specs.Limits.{all_prices}
 use Rattle.mill_model.specs.declared.prices.TheConstants.{MAX_PRICE}
@@ -49,8 +48,9 @@ loop-t-preserved c = record {
       table-width c.args.packing.now.rest.now c.args.packing.now.prices.now then (colour ∷ []) k
       (length c.loop-t.table) (length c.args.table.now) (cell c.add_kept.new.table) w
       (c.add_kept.ensures.best out (colour ∷ []) k n
-      paid (table-width c.args.packing.now.rest.now c.args.packing.now.prices.now now (colour ∷ []) k
-      (length c.args.table.now) (length c.loop-t.table) (cell c.loop-t.table) (sym w)
+      paid (table-width c.args.packing.now.rest.now c.args.packing.now.prices.now now
+      (colour ∷ []) k (length c.args.table.now) (length c.loop-t.table) (cell c.loop-t.table)
+      (sym w)
       (c.loop-t.invariant.best out colour k run p)));
   near = λ n h l.
       near-wider (n + (c.loop-t.t - c.args.at) * MAX_PRICE + MAX_PRICE)
@@ -63,7 +63,8 @@ loop-t-preserved c = record {
 pub returns-clause-best : goal.returns-clause-best
 returns-clause-best c out colour k run p =
     let e : c.loop-t.t ≡ c.args.end = omega (arith, c.loop-t.auto.t-end, c.requires.order) in
-    subst (λ t. IsTableOf c.args.packing.now (let_to c.args.packing.now out t) (colour ∷ []) k (length
+    subst (λ t. IsTableOf c.args.packing.now (let_to c.args.packing.now out t) (colour ∷ []) k
+    (length
     c.args.table.now) (cell c.loop-t.table)) e
     (c.loop-t.invariant.best out colour k run p)
 

@@ -50,7 +50,7 @@ loop-t-preserved c =
           c.args.tables.now layered c.loop-t.t t (omega (arith, c.loop-t-test.true))
           (omega (arith, c.loop-t-test.true)) (omega (arith, c.loop-t.auto.t)) c.loop-t.tables
           c.raise_layer.new.tables (c.loop-t.invariant.done out colour run layered)
-          c.loop-t.invariant.old (λ k. best out colour k run) other;
+          c.loop-t.invariant.old (λ k e. best out colour k run) other;
       old = λ i h.
           let m : t * length c.args.table.now ≤ c.loop-t.t * length c.args.table.now =
           mul-le-mul_right (length c.args.table.now) (omega arith) in

@@ -67,7 +67,8 @@ returns-clause-best c p t b =
     (let_to c.args.packing.now c.args.out.now c.loop-at.at)
     (others_of c.args.packing.now c.args.out.now) [] t (length c.args.table.now)
     (λ l. cell c.loop-at.tables (t * length c.args.table.now + l))
-    (λ i h. all-let_in c.args.packing.now.rest.now c.args.packing.now.items.now c.requires.packing.sorted
+    (λ i h. all-let_in c.args.packing.now.rest.now c.args.packing.now.items.now
+    c.requires.packing.sorted
     c.args.out.now c.args.packing.now.skip c.loop-at.at i (omega (arith, c.loop-at-test.false)) h)
     (c.loop-at.invariant.best p t b)
 
@@ -75,5 +76,10 @@ pub returns-clause-near : goal.returns-clause-near
 returns-clause-near c l =
     near-wider (c.loop-at.at * (9 * all_prices)) 200000000000000000
     (get_or c.loop-at.tables l (pos 0))
-    (omega (arith, c.requires.packing.few, c.requires.packing.sorted.count, c.loop-at.invariant.inside))
+    (omega (
+      arith,
+      c.requires.packing.few,
+      c.requires.packing.sorted.count,
+      c.loop-at.invariant.inside,
+    ))
     (c.loop-at.invariant.near l)

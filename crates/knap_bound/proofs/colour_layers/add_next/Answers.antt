@@ -9,7 +9,8 @@ use Rattle.knap_bound.proofs.colour_layers.add_next.Goals as goal
 
 pub returns-then-not-has_colour-clause-best : goal.returns-then-not-has_colour-clause-best
 returns-then-not-has_colour-clause-best c p =
-    let n : holds (item_at c.args.packing.now.items.now c.args.run.0).colour c.args.out.now ≡ false =
+    let n : holds (item_at c.args.packing.now.items.now c.args.run.0).colour c.args.out.now
+    ≡ false =
     sym c.if-not-has_colour.ensures in
     c.add_colour.ensures.best c.args.out.now (item_at c.args.packing.now.items.now
     c.args.run.0).colour

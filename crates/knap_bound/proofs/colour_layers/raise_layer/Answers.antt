@@ -17,7 +17,8 @@ returns-clause-best c out colour k run below here l b =
     let n2 : length c.add_run.new.table ≡ length c.copy_layer.new.table = c.add_run.auto.table in
     let rest = c.args.packing.now.rest.now in
     let prices = c.args.packing.now.prices.now in
-    let before = let_in rest c.args.packing.now.items.now out c.args.packing.now.skip c.args.run.0 in
+    let before = let_in rest c.args.packing.now.items.now out c.args.packing.now.skip
+    c.args.run.0 in
     let after = let_in rest c.args.packing.now.items.now out c.args.packing.now.skip c.args.run.1 in
     let e : cell c.better_layer.new.tables (c.args.t * width + l)
     ≡ better (cell c.args.tables.now (c.args.t * width + l)) (cell c.add_run.new.table l) =

@@ -26,7 +26,8 @@ returns-clause-top c =
     let wide : length (take width c.fill_front.new.one) ≡ width =
     omega (arith, long, front, c.requires.one, c.requires.base) in
     let top = rw wide at (c.joined_gain.ensures.top free c.requires.once) in
-    let packed : IsTop (Packed kept own (free + length own) rest c.args.low width) gains (found best)
+    let packed : IsTop (Packed kept own (free + length own) rest c.args.low width) gains
+    (found best)
     = top (c.fill_front.ensures.best free (omega arith)) in
     let all : free + length own ≡ c.args.most = omega (arith, c.requires.colours) in
     let e : width ≡ suc (c.args.largest - c.args.base) = omega arith in

@@ -1,4 +1,4 @@
-use Rattle.std.proofs.Common.{◌≡◌, ◌+◌, ◌∙◌, not, [], length, sym, subst}
+use Rattle.std.proofs.Common.{◌≡◌, ◌+◌, not, [], length, sym, subst}
 use Rattle.std.proofs.Common.{arith, true, false, Bool, refl}
 use Rattle.list_laws.specs.Sets.{holds}
 use Rattle.set_minima.specs.Packs.{IsBest, colour_at}
@@ -23,7 +23,8 @@ returns-clause-best c t once p =
     let allowed = others_of c.args.packing.now c.args.out.now in
     let w : length c.copy_layer.new.table ≡ length c.args.table.now = c.copy_layer.auto.table in
     let best = rw w at (c.add_left_out.ensures.best (t + length c.args.out.now)) in
-    best (λ l b. colours-paid rest allowed prices t l c.args.out.now (cell c.copy_layer.new.table l) once
+    best (λ l b. colours-paid rest allowed prices t l c.args.out.now
+    (cell c.copy_layer.new.table l) once
     (λ i q a. turned (holds (colour_at rest i) c.args.out.now)
     (and-left _ (all_but c.args.packing.now.skip i) a))
     (subst (λ x. IsBest allowed [] t rest prices l (found x))

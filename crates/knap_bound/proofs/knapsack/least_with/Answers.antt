@@ -1,8 +1,5 @@
-use Rattle.std.proofs.Common.{◌≡◌, ℤ, pos, Some, None, ◌+ℤ◌, SFits, w64, to_z-of_z, rules, arith}
-use Rattle.set_minima.specs.Cells.{found, IsSmall}
-use Rattle.set_minima.proofs.CellNumbers.{found-plus}
+use Rattle.std.proofs.Common.{◌+ℤ◌, SFits, w64, to_z-of_z, rules}
 use Rattle.knap_bound.proofs.SlabGains.{priced-small}
-use Rattle.mill_model.specs.declared.prices.TheConstants.{MAX_PRICE}
 use Rattle.knap_bound.proofs.knapsack.least_with.Goals as goal
 
 pub returns-clause-small : goal.returns-clause-small

@@ -1,6 +1,7 @@
 -- The orders so far, and those from the next rank on, are those from the first rank on.
-use Rattle.std.proofs.Common.{◌≡◌, ◌<◌, ◌≤◌, ◌+◌, ◌++◌, ◌∷◌, [], Some, drop, length, sym, ap, ◌∙◌, arith}
-use Rattle.std.proofs.Common.{rules, append-nil, append_assoc, subst}
+use Rattle.std.proofs.Common.{◌≡◌, ◌+◌, ◌++◌, ◌∷◌, [], drop, length, sym, ap, ◌∙◌}
+use Rattle.std.proofs.Common.{arith}
+use Rattle.std.proofs.Common.{rules, append-nil, append_assoc}
 use Rattle.std.proofs.lemmas.List.{length-map, drop_all}
 use Rattle.order_symmetry.specs.Ranked.{orders_of}
 use Rattle.knap_bound.proofs.LaterOrders.{drop-from}

@@ -1,4 +1,4 @@
-use Rattle.std.proofs.Common.{◌≡◌, ◌≤◌, ◌++◌, drop, length}
+use Rattle.std.proofs.Common.{◌≡◌, ◌++◌, drop}
 use Rattle.order_symmetry.specs.Ranked.{orders_of}
 use Rattle.knap_bound.proofs.knapsack.orders_from.Given as goal
 

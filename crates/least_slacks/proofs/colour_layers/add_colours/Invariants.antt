@@ -1,7 +1,7 @@
 use Rattle.std.proofs.Common.{ℕ, ◌+◌, ◌-◌, ◌*◌, ◌<◌, ◌≤◌, length}
 use Rattle.set_minima.specs.Cells.{AreNear}
 use Rattle.least_slacks.specs.Items.{item_at}
-use Rattle.least_slacks.specs.Later.{let_to, others_of, AreLayersOf}
+use Rattle.least_slacks.specs.Later.{let_to, others_of, AreLayersOf, AreReachesOf}
 use Rattle.least_slacks.specs.Parts.{letting_of}
 use Rattle.mill_model.specs.declared.prices.TheConstants.{MAX_PRICE}
 use Rattle.least_slacks.proofs.colour_layers.add_colours.Given as goal
@@ -12,7 +12,14 @@ invariant-loop-at l = record {
   border :
       l.at < length l.later.items.now → (s : ℕ) → s < l.at →
       (item_at l.later.items.now s).colour < (item_at l.later.items.now l.at).colour;
+  reached :
+      AreReachesOf l.later (others_of l.later (letting_of l.later.rest.now l.part).before) l.layers
+      (length l.initial.table) l.initial.reach →
+      AreReachesOf l.later (let_to l.later (letting_of l.later.rest.now l.part) l.at) l.layers
+      (length l.initial.table) l.reach;
   best :
+      AreReachesOf l.later (others_of l.later (letting_of l.later.rest.now l.part).before) l.layers
+      (length l.initial.table) l.initial.reach →
       AreLayersOf l.later (others_of l.later (letting_of l.later.rest.now l.part).before) l.layers
       (length l.initial.table) l.initial.tables →
       AreLayersOf l.later (let_to l.later (letting_of l.later.rest.now l.part) l.at) l.layers

@@ -7,9 +7,12 @@ use Rattle.list_laws.proofs.Tests.{and-left, and-right}
 use Rattle.mill_model.specs.declared.order.Order.{Order}
 use Rattle.set_minima.specs.Packs.{nobody}
 use Rattle.set_minima.specs.Cells.{cell}
-use Rattle.least_slacks.specs.Items.{item_at}
-use Rattle.least_slacks.specs.Later.{let_to}
+use Rattle.least_slacks.specs.Items.{item_at, AreItems, IsStretch}
+use Rattle.least_slacks.specs.Later.{let_to, IsRunOf}
 use Rattle.least_slacks.specs.Parts.{letting_of, out_of}
+use Rattle.least_slacks.specs.declared.later_orders.LaterOrders.{LaterOrders}
+use Rattle.least_slacks.specs.declared.parts.Part.{Part}
+use Rattle.set_minima.proofs.ReachMore.{reach-allowed}
 use Rattle.set_minima.proofs.CellNumbers.{near-wider}
 use Rattle.least_slacks.proofs.ColoursCounted.{value-held}
 use Rattle.set_minima.proofs.WholeTables.{table-allowed}
@@ -39,20 +42,23 @@ held-by-cases : (first : Bool) (c : ℕ) (all whole : List ℕ) →
 held-by-cases true c all whole = refl
 held-by-cases false c all whole = refl
 
-pub returns-then-lets_in-clause-best : goal.returns-then-lets_in-clause-best
-returns-then-lets_in-clause-best c p =
-    let rest = c.args.later.now.rest.now in
-    let items = c.args.later.now.items.now in
-    let part = c.args.part.now in
-    let stretch = c.requires.stretch in
-    let its = (item_at items c.args.run.0).colour in
-    let place = (item_at items c.args.run.0).place in
-    let here : c.args.run.0 < length items = omega (arith, stretch.some, stretch.ends) in
-    let coloured = c.requires.later.sorted.coloured c.args.run.0 here in
+-- the run of a colour that is let in
+new-run : (later : LaterOrders) (part : Part) (at end : ℕ) → AreItems later.rest.now
+    later.items.now → IsStretch later.items.now at end →
+    ((part.first || holds (item_at later.items.now at).colour (out_of part.most part.whole.now))
+    && not (holds (item_at later.items.now at).colour (out_of part.most part.keys.now)))
+    ≡ true →
+    IsRunOf later (letting_of later.rest.now part) at end (item_at later.items.now at).colour
+new-run later part at end sorted stretch lets =
+    let rest = later.rest.now in
+    let items = later.items.now in
+    let its = (item_at items at).colour in
+    let place = (item_at items at).place in
+    let here : at < length items = omega (arith, stretch.some, stretch.ends) in
+    let coloured = sorted.coloured at here in
     let all : holds its (map (λ (order : Order). order.colour) rest) ≡ true =
     rw coloured (value-held (λ (order : Order). order.colour) rest place nobody
-    (c.requires.later.sorted.inside c.args.run.0 here)) in
-    let lets = sym c.lets_in.ensures ∙ c.if-lets_in.true in
+    (sorted.inside at here)) in
     let was : holds its (letting_of rest part).before ≡ true =
     held-by-cases part.first its (map (λ (order : Order). order.colour) rest)
     (out_of part.most part.whole.now)
@@ -60,37 +66,65 @@ returns-then-lets_in-clause-best c p =
     (holds its (map (λ (order : Order). order.colour) rest)) all (and-left _ _ lets) in
     let still : holds its (letting_of rest part).after ≡ false =
     not-true (holds its (out_of part.most part.keys.now)) (and-right _ _ lets) in
-    c.add_colour.ensures.best (letting_of rest part) its
-    (run-new rest items c.requires.later.sorted (letting_of rest part) c.args.run.0 c.args.run.1
-    stretch was still) p
+    run-new rest items sorted (letting_of rest part) at end stretch was still
 
-pub returns-else-lets_in-clause-best : goal.returns-else-lets_in-clause-best
-returns-else-lets_in-clause-best c p t b =
-    let rest = c.args.later.now.rest.now in
-    let items = c.args.later.now.items.now in
-    let part = c.args.part.now in
-    let its = (item_at items c.args.run.0).colour in
-    let lets = sym c.lets_in.ensures ∙ c.if-lets_in.false in
-    let same : (i : ℕ) → i < length rest →
-    let_to c.args.later.now (letting_of rest part) c.args.run.0 i
-    ≡ let_to c.args.later.now (letting_of rest part) c.args.run.1 i =
+-- with a run of a colour that isn't, the same orders are let in
+same-let : (later : LaterOrders) (part : Part) (at end : ℕ) → AreItems later.rest.now
+    later.items.now → IsStretch later.items.now at end →
+    ((part.first || holds (item_at later.items.now at).colour (out_of part.most part.whole.now))
+    && not (holds (item_at later.items.now at).colour (out_of part.most part.keys.now)))
+    ≡ false → (i : ℕ) → i < length later.rest.now →
+    let_to later (letting_of later.rest.now part) at i
+    ≡ let_to later (letting_of later.rest.now part) end i
+same-let later part at end sorted stretch lets =
+    let rest = later.rest.now in
+    let items = later.items.now in
+    let its = (item_at items at).colour in
     elim (neither part.first (holds its (out_of part.most part.whole.now))
     (holds its (map (λ (order : Order). order.colour) rest))
     (holds its (out_of part.most part.keys.now)) lets) [
-      | inl o ↦ run-out rest items c.requires.later.sorted (letting_of rest part) c.args.run.0
-          c.args.run.1 c.requires.stretch o
-      | inr o ↦ run-in rest items c.requires.later.sorted (letting_of rest part) c.args.run.0
-          c.args.run.1 c.requires.stretch
+      | inl o ↦ run-out rest items sorted (letting_of rest part) at end stretch o
+      | inr o ↦ run-in rest items sorted (letting_of rest part) at end stretch
           (held-by-cases part.first its (map (λ (order : Order). order.colour) rest)
           (out_of part.most part.whole.now) ∙ o)
-    ] in
-    table-allowed rest c.args.later.now.prices.now
-    (let_to c.args.later.now (letting_of rest part) c.args.run.0)
-    (let_to c.args.later.now (letting_of rest part) c.args.run.1) [] t
-    (length c.args.table.now) (λ l. cell c.args.tables.now (t * length c.args.table.now + l))
-    same (p t b)
+    ]
 
-pub returns-else-lets_in-clause-near : goal.returns-else-lets_in-clause-near
-returns-else-lets_in-clause-near c n h l =
+pub returns-then-lets_in-clause-best : goal.returns-then-lets_in-clause-best
+returns-then-lets_in-clause-best c =
+    c.add_colour.ensures.best (letting_of c.args.later.now.rest.now c.args.part.now)
+    (item_at c.args.later.now.items.now c.args.run.0).colour
+    (new-run c.args.later.now c.args.part.now c.args.run.0 c.args.run.1 c.requires.later.sorted
+    c.requires.stretch (sym c.lets_in.ensures ∙ c.if-lets_in.true))
+
+pub returns-then-lets_in-clause-reach : goal.returns-then-lets_in-clause-reach
+returns-then-lets_in-clause-reach c =
+    c.add_colour.ensures.reach (letting_of c.args.later.now.rest.now c.args.part.now)
+    (item_at c.args.later.now.items.now c.args.run.0).colour
+    (new-run c.args.later.now c.args.part.now c.args.run.0 c.args.run.1 c.requires.later.sorted
+    c.requires.stretch (sym c.lets_in.ensures ∙ c.if-lets_in.true))
+
+pub returns-clause-best : goal.returns-clause-best
+returns-clause-best c reached p t b =
+    let later = c.args.later.now in
+    let part = c.args.part.now in
+    table-allowed later.rest.now later.prices.now
+    (let_to later (letting_of later.rest.now part) c.args.run.0)
+    (let_to later (letting_of later.rest.now part) c.args.run.1) [] t
+    (length c.args.table.now) (λ l. cell c.args.tables.now (t * length c.args.table.now + l))
+    (same-let later part c.args.run.0 c.args.run.1 c.requires.later.sorted c.requires.stretch
+    (sym c.lets_in.ensures ∙ c.if-lets_in.false)) (p t b)
+
+pub returns-clause-reach : goal.returns-clause-reach
+returns-clause-reach c reached t b =
+    let later = c.args.later.now in
+    let part = c.args.part.now in
+    let same = same-let later part c.args.run.0 c.args.run.1 c.requires.later.sorted
+    c.requires.stretch (sym c.lets_in.ensures ∙ c.if-lets_in.false) in
+    reach-allowed later.rest.now (let_to later (letting_of later.rest.now part) c.args.run.0)
+    (let_to later (letting_of later.rest.now part) c.args.run.1) [] t (length c.args.table.now)
+    (get_or c.args.reach t 0) (λ i h a. same i h ∙ a) (reached t b)
+
+pub returns-clause-near : goal.returns-clause-near
+returns-clause-near c n h l =
     near-wider n (n + (c.args.run.1 - c.args.run.0) * (9 * MAX_PRICE))
     (get_or c.args.tables.now l (pos 0)) (omega arith) (h l)

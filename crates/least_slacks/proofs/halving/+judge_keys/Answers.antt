@@ -20,7 +20,8 @@ use Rattle.least_slacks.proofs.halving.+judge_keys.Goals as goal
 pub judge_each-requires-clause-layers : goal.judge_each-requires-clause-layers
 judge_each-requires-clause-layers t c =
     all-served c.args.limits.now c.args.later.now c.args.keys.now c.args.levels
-    c.args.layers.now.shape c.args.layers.now.tables.now c.requires.filled c.requires.near
+    c.args.layers.now.shape c.args.layers.now.reach c.args.layers.now.tables.now
+    c.requires.filled c.requires.near
     (c.name_the_same.ensures.same c.if-name_the_same.true)
 
 pub split_at_mut-here-requires : goal.split_at_mut-here-requires
@@ -31,8 +32,8 @@ split_at_mut-here-requires t c =
     let m : 1 * size ≤ c.args.levels * size = mul-le-mul_right size some in
     omega (arith, m, c.requires.stack)
 
-pub fill_part-shape-requires-clause-within : goal.fill_part-shape-requires-clause-within
-fill_part-shape-requires-clause-within t c x h =
+pub fill_part-requires-clause-within : goal.fill_part-requires-clause-within
+fill_part-requires-clause-within t c x h =
     let most = c.args.limits.now.most in
     let keys = c.args.keys.now in
     out-take most x (length keys / 2) keys
@@ -47,11 +48,11 @@ judge_keys-requires t c =
     let some = some-levels levels (length keys) many c.requires.levels.1 in
     let half = half-each levels (length keys) many c.requires.levels.1 in
     let less = one-less levels size some in
-    let near : (l : ℕ) → l < c.fill_part-shape.result.layers * c.fill_part-shape.result.width →
-    IsNear (drift (levels - 1)) (get_or c.fill_part-shape.new.tables l (pos 0)) =
+    let near : (l : ℕ) → l < c.fill_part.result.0.layers * c.fill_part.result.0.width →
+    IsNear (drift (levels - 1)) (get_or c.fill_part.new.tables l (pos 0)) =
     λ l b. near-wider (drift levels + 9 * all_prices) (drift (levels - 1))
-    (get_or c.fill_part-shape.new.tables l (pos 0)) (omega (arith, some, c.requires.levels.0))
-    (c.fill_part-shape.ensures.near (drift levels) c.requires.near l b) in
+    (get_or c.fill_part.new.tables l (pos 0)) (omega (arith, some, c.requires.levels.0))
+    (c.fill_part.ensures.near (drift levels) c.requires.near l b) in
     let inside : All (IsInside c.args.limits.now) c.split_at.result.0.now =
     subst (λ (ks : List Key). All (IsInside c.args.limits.now) ks) (sym c.split_at.ensures.front)
     (All-take (IsInside c.args.limits.now) (length keys / 2) keys c.requires.keys) in (
@@ -59,11 +60,11 @@ judge_keys-requires t c =
       (
         c.requires.later,
         (
-          omega (arith, c.fill_part-shape.auto.one, c.requires.one),
+          omega (arith, c.fill_part.auto.one, c.requires.one),
           (
             omega (arith, less, c.requires.stack, c.split_at_mut-here.ensures.back_len),
             (
-              c.fill_part-shape.ensures.filled,
+              c.fill_part.ensures.filled,
               (
                 near,
                 (
@@ -83,15 +84,15 @@ judge_keys-requires t c =
       ),
     )
 
-pub fill_part-shape-requires-2-clause-within : goal.fill_part-shape-requires-2-clause-within
-fill_part-shape-requires-2-clause-within t c x h =
+pub fill_part-requires-2-clause-within : goal.fill_part-requires-2-clause-within
+fill_part-requires-2-clause-within t c x h =
     let most = c.args.limits.now.most in
     let keys = c.args.keys.now in
     out-drop most x (length keys / 2) keys
     (subst (λ (ks : List Key). holds x (out_of most ks) ≡ true) c.split_at.ensures.back h)
 
-pub fill_part-shape-requires-2-clause-serves : goal.fill_part-shape-requires-2-clause-serves
-fill_part-shape-requires-2-clause-serves t c =
+pub fill_part-requires-2-clause-serves : goal.fill_part-requires-2-clause-serves
+fill_part-requires-2-clause-serves t c =
     let keys = c.args.keys.now in
     subst (λ (ks : List Key). ServesAll c.args.limits.now c.args.later.now c.args.layers.now.shape
     ks) (sym c.split_at.ensures.back)
@@ -108,11 +109,11 @@ judge_keys-requires-2 t c =
     let some = some-levels levels (length keys) many c.requires.levels.1 in
     let half = half-each levels (length keys) many c.requires.levels.1 in
     let less = one-less levels size some in
-    let near : (l : ℕ) → l < c.fill_part-shape-2.result.layers * c.fill_part-shape-2.result.width →
-    IsNear (drift (levels - 1)) (get_or c.fill_part-shape-2.new.tables l (pos 0)) =
+    let near : (l : ℕ) → l < c.fill_part-2.result.0.layers * c.fill_part-2.result.0.width →
+    IsNear (drift (levels - 1)) (get_or c.fill_part-2.new.tables l (pos 0)) =
     λ l b. near-wider (drift levels + 9 * all_prices) (drift (levels - 1))
-    (get_or c.fill_part-shape-2.new.tables l (pos 0)) (omega (arith, some, c.requires.levels.0))
-    (c.fill_part-shape-2.ensures.near (drift levels) c.requires.near l b) in
+    (get_or c.fill_part-2.new.tables l (pos 0)) (omega (arith, some, c.requires.levels.0))
+    (c.fill_part-2.ensures.near (drift levels) c.requires.near l b) in
     let inside : All (IsInside c.args.limits.now) c.split_at.result.1.now =
     subst (λ (ks : List Key). All (IsInside c.args.limits.now) ks) (sym c.split_at.ensures.back)
     (All-drop (IsInside c.args.limits.now) (length keys / 2) keys c.requires.keys) in (
@@ -122,9 +123,9 @@ judge_keys-requires-2 t c =
         (
           omega (
             arith,
-            c.fill_part-shape-2.auto.one,
+            c.fill_part-2.auto.one,
             c.judge_keys.auto.one,
-            c.fill_part-shape.auto.one,
+            c.fill_part.auto.one,
             c.requires.one,
           ),
           (
@@ -136,7 +137,7 @@ judge_keys-requires-2 t c =
               c.judge_keys.auto.stack,
             ),
             (
-              c.fill_part-shape-2.ensures.filled,
+              c.fill_part-2.ensures.filled,
               (
                 near,
                 (

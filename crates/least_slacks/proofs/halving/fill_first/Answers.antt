@@ -16,9 +16,10 @@ returns-clause-filled c =
     let one0 = length-take shape.width c.args.one.now in
     let wide : length (take shape.width c.args.one.now) ≡ shape.width =
     omega (arith, one0, c.requires.one, its.narrow) in
-    let long : length c.fill_layers.new.tables ≡ whole =
-    omega (arith, c.fill_layers.auto.tables, front0, room, c.requires.room) in
-    let best = rw wide at c.fill_layers.ensures.best in
+    let long : length c.fill_layers-reach.new.tables ≡ whole =
+    omega (arith, c.fill_layers-reach.auto.tables, front0, room, c.requires.room) in
+    let best = rw wide at c.fill_layers-reach.ensures.best in
+    let reach = rw wide at c.fill_layers-reach.ensures.reach in
     record {
       few = its.few;
       some = its.some;
@@ -27,12 +28,13 @@ returns-clause-filled c =
           omega (
             arith,
             long,
-            length-append c.fill_layers.new.tables (drop whole
+            length-append c.fill_layers-reach.new.tables (drop whole
                 c.args.tables.now),
           );
       serves = its.serves;
+      reached = reach;
       filled =
           layers-in-front c.args.later.now
           (others_of c.args.later.now (out_of c.args.limits.now.most c.args.keys.now)) shape.layers
-          shape.width c.fill_layers.new.tables (drop whole c.args.tables.now) long best;
+          shape.width c.fill_layers-reach.new.tables (drop whole c.args.tables.now) long best;
     }

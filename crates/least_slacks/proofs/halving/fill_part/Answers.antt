@@ -5,7 +5,7 @@ use Rattle.std.proofs.lemmas.List.{length-take}
 use Rattle.std.proofs.lemmas.Bool.{cases_lt}
 use Rattle.mill_model.specs.Limits.{all_prices}
 use Rattle.mill_model.specs.Slab.{load}
-use Rattle.least_slacks.specs.Later.{others_of, AreLayersOf}
+use Rattle.least_slacks.specs.Later.{others_of, AreLayersOf, AreReachesOf}
 use Rattle.least_slacks.specs.Parts.{out_of}
 use Rattle.least_slacks.proofs.KeysInHalves.{product, layers-in-front, near-in-front}
 use Rattle.least_slacks.proofs.halving.fill_part.Goals as goal
@@ -26,9 +26,13 @@ returns-clause-filled c =
     let one0 = length-take width c.args.one.now in
     let wide : length (take width c.args.one.now) ≡ width =
     omega (arith, one0, c.requires.one, narrow) in
-    let long : length c.refill_layers.new.tables ≡ whole =
-    omega (arith, c.refill_layers.auto.tables, front0, room, c.requires.room) in
-    let best = rw wide at c.refill_layers.ensures.best in
+    let long : length c.refill_layers-reach.new.tables ≡ whole =
+    omega (arith, c.refill_layers-reach.auto.tables, front0, room, c.requires.room) in
+    let best = rw wide at c.refill_layers-reach.ensures.best in
+    let reach = rw wide at c.refill_layers-reach.ensures.reach in
+    let whole_reached = subst (λ z. AreReachesOf c.args.later.now (others_of c.args.later.now
+    (out_of z c.args.part.now.whole.now)) c.args.from.now.shape.layers c.args.from.now.shape.width
+    c.args.from.now.reach) (sym c.requires.part.1) from.reached in
     let whole_filled = subst (λ z. AreLayersOf c.args.later.now (others_of c.args.later.now
     (out_of z c.args.part.now.whole.now)) c.args.from.now.shape.layers c.args.from.now.shape.width
     c.args.from.now.tables.now) (sym c.requires.part.1) from.filled in
@@ -40,7 +44,7 @@ returns-clause-filled c =
           omega (
             arith,
             long,
-            length-append c.refill_layers.new.tables (drop whole c.args.tables.now),
+            length-append c.refill_layers-reach.new.tables (drop whole c.args.tables.now),
           );
       serves = λ k d h takes.
           (let a = its.serves k d h takes in
@@ -66,10 +70,14 @@ returns-clause-filled c =
       filled =
           layers-in-front c.args.later.now
           (others_of c.args.later.now (out_of most c.args.part.now.keys.now)) layers width
-          c.refill_layers.new.tables (drop whole c.args.tables.now) long
+          c.refill_layers-reach.new.tables (drop whole c.args.tables.now) long
           (subst (λ z. AreLayersOf c.args.later.now (others_of c.args.later.now
-          (out_of z c.args.part.now.keys.now)) layers width c.refill_layers.new.tables)
-          c.requires.part.1 (best whole_filled));
+          (out_of z c.args.part.now.keys.now)) layers width c.refill_layers-reach.new.tables)
+          c.requires.part.1 (best whole_reached whole_filled));
+      reached =
+          subst (λ z. AreReachesOf c.args.later.now (others_of c.args.later.now
+          (out_of z c.args.part.now.keys.now)) layers width c.refill_layers-reach.result)
+          c.requires.part.1 (reach whole_reached);
     }
 
 pub returns-clause-near : goal.returns-clause-near
@@ -82,7 +90,7 @@ returns-clause-near c n near =
     (omega (arith, c.min-layers.ensures, its.few)) (omega (arith, c.min-width.ensures, its.narrow))
     in
     let front0 = length-take whole c.args.tables.now in
-    near-in-front (n + 9 * all_prices) whole c.refill_layers.new.tables
+    near-in-front (n + 9 * all_prices) whole c.refill_layers-reach.new.tables
     (drop whole c.args.tables.now)
-    (omega (arith, c.refill_layers.auto.tables, front0, room, c.requires.room))
-    (c.refill_layers.ensures.near n near)
+    (omega (arith, c.refill_layers-reach.auto.tables, front0, room, c.requires.room))
+    (c.refill_layers-reach.ensures.near n near)

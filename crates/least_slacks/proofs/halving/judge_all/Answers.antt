@@ -7,5 +7,5 @@ use Rattle.least_slacks.proofs.halving.judge_all.Goals as goal
 pub judge_keys-requires-clause-near : goal.judge_keys-requires-clause-near
 judge_keys-requires-clause-near c l b =
     near-wider (9 * all_prices) (drift c.args.levels)
-    (get_or c.fill_first-shape.new.tables l (pos 0)) (omega (arith, c.requires.levels.0))
-    (c.fill_first-shape.ensures.near l b)
+    (get_or c.fill_first.new.tables l (pos 0)) (omega (arith, c.requires.levels.0))
+    (c.fill_first.ensures.near l b)

@@ -1,10 +1,10 @@
 -- The tables' gain beside the load and the colours of a slab is that of a set, since the empty set
 -- joins.
-use Rattle.std.proofs.Common.{◌≡◌, ℕ, ◌≤◌, List, length, ap, sym, subst, SFits, w64, to_z-of_z, rules, arith}
+use Rattle.std.proofs.Common.{◌≡◌, ℕ, ◌≤◌, List, ap, sym, subst, SFits, w64, to_z-of_z}
+use Rattle.std.proofs.Common.{rules, arith}
 use Rattle.mill_model.specs.Charges.{charge_of}
 use Rattle.mill_model.specs.Slab.{Mill}
 use Rattle.list_laws.specs.Sets.{different}
-use Rattle.set_minima.specs.Packs.{IsTop}
 use Rattle.set_minima.specs.Joins.{gain, Joins, all_but}
 use Rattle.set_minima.specs.Cells.{found}
 use Rattle.knap_bound.proofs.SlabGains.{gain-small, gain-found, are-prices}

@@ -1,10 +1,11 @@
-use Rattle.std.proofs.Common.{◌≡◌, ◌∙◌, [], sym, subst, SFits, w64, to_z-of_z, rules, arith}
+use Rattle.std.proofs.Common.{◌∙◌, [], sym, subst, SFits, w64, to_z-of_z, rules, arith}
 use Rattle.mill_model.specs.Charges.{charge_of}
 use Rattle.set_minima.specs.Packs.{IsTop}
 use Rattle.set_minima.specs.Joins.{gain, Joins, all_but}
 use Rattle.set_minima.specs.Cells.{found}
 use Rattle.set_minima.proofs.Least.{new-is}
-use Rattle.knap_bound.proofs.SlabGains.{are-orders, are-prices, none-skipped, gain-small, small-wider}
+use Rattle.knap_bound.proofs.SlabGains.{are-orders, are-prices, none-skipped, gain-small}
+use Rattle.knap_bound.proofs.SlabGains.{small-wider}
 use Rattle.knap_bound.proofs.knapsack.Knapsack.least_new.Goals as goal
 
 pub returns-clause-is : goal.returns-clause-is

@@ -1,4 +1,5 @@
-use Rattle.std.proofs.Common.{◌≡◌, ◌+◌, ◌<◌, ◌∙◌, [], ◌∷◌, sym, subst, get_or, pos, SFits, w64, to_z-of_z, rules}
+use Rattle.std.proofs.Common.{◌≡◌, ◌+◌, ◌<◌, ◌∙◌, [], ◌∷◌, sym, subst, get_or, pos, SFits, w64}
+use Rattle.std.proofs.Common.{to_z-of_z, rules}
 use Rattle.std.proofs.Common.{arith}
 use Rattle.mill_model.specs.Charges.{charge_of}
 use Rattle.mill_model.specs.declared.order.Order.{Order}
@@ -42,7 +43,8 @@ returns-clause-is c =
     rest) (gain charge o.weight rest prices) best) c.order-order.ensures.is
     c.gain_beside-gain.ensures.top in
     let z : order.weight ≡ 0 + order.weight = omega arith in
-    let beside = subst (λ base. IsTop (Joins (all_but i) 0 largest base (order.colour ∷ []) most rest)
+    let beside = subst (λ base. IsTop (Joins (all_but i) 0 largest base (order.colour ∷ []) most
+    rest)
     (gain charge base rest prices) best) z top in
     e ∙ sym (with-is largest most charge rest prices [] 0 []
     (new-slab largest most charge rest prices) i c.requires.here c.requires.one_each best beside)

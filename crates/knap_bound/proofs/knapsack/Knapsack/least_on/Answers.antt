@@ -1,8 +1,6 @@
-use Rattle.std.proofs.Common.{◌≡◌, ◌≤◌, ◌∙◌, ℕ, List, ap, subst, sym, SFits, w64, to_z-of_z, rules, arith}
-use Rattle.list_laws.specs.Sets.{different}
+use Rattle.std.proofs.Common.{◌∙◌, subst, SFits, w64, to_z-of_z, rules}
 use Rattle.mill_model.specs.Charges.{charge_of}
 use Rattle.mill_model.specs.Prices.{least_slack}
-use Rattle.mill_model.specs.Slab.{Mill}
 use Rattle.set_minima.specs.Packs.{IsTop}
 use Rattle.set_minima.specs.Joins.{gain, Joins, all_but}
 use Rattle.set_minima.specs.Cells.{found}

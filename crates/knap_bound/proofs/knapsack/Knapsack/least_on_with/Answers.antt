@@ -1,5 +1,6 @@
-use Rattle.std.proofs.Common.{◌≡◌, ◌↔◌, ◌∙◌, ◌++◌, ◌∷◌, [], ℤ, IsTrue, Bool, true, false, sym, subst, get_or}
-use Rattle.std.proofs.Common.{pos, SFits, w64, to_z-of_z, rules, arith, ◌+◌}
+use Rattle.std.proofs.Common.{◌≡◌, ◌∙◌, ◌++◌, ◌∷◌, [], false, sym}
+use Rattle.std.proofs.Common.{subst, get_or}
+use Rattle.std.proofs.Common.{pos, SFits, w64, to_z-of_z, rules, ◌+◌}
 use Rattle.mill_model.specs.Charges.{charge_of}
 use Rattle.mill_model.specs.Slab.{Mill, legal}
 use Rattle.mill_model.specs.declared.order.Order.{Order}
@@ -7,9 +8,7 @@ use Rattle.set_minima.specs.Packs.{IsTop, nobody}
 use Rattle.set_minima.specs.Joins.{gain, Joins, all_but}
 use Rattle.set_minima.specs.Cells.{found}
 use Rattle.set_minima.proofs.Holding.{with-is}
-use Rattle.set_minima.proofs.Tops.{some-same}
 use Rattle.slab_rules.specs.OpenSlab.{OpenSlab, joined}
-use Rattle.knap_bound.specs.Knapsacks.{IsLater}
 use Rattle.knap_bound.proofs.SlabGains.{found-same}
 use Rattle.knap_bound.proofs.JoinedOrders.{carried, joined-top, none-holding, not-legal}
 use Rattle.knap_bound.proofs.knapsack.Knapsack.least_on_with.Goals as goal

@@ -1,4 +1,4 @@
-use Rattle.std.proofs.Common.{◌≡◌, ◌∙◌, sym, SFits, w64, to_z-of_z, rules}
+use Rattle.std.proofs.Common.{◌∙◌, sym, SFits, w64, to_z-of_z, rules}
 use Rattle.mill_model.specs.Charges.{charge_of}
 use Rattle.set_minima.specs.Cells.{found}
 use Rattle.set_minima.proofs.Least.{without-is}

@@ -1,7 +1,6 @@
-use Rattle.std.proofs.Common.{◌≡◌, List, rules, subst, sym}
+use Rattle.std.proofs.Common.{List, rules, subst}
 use Rattle.mill_model.specs.declared.order.Order.{Order}
 use Rattle.knap_bound.specs.Items.{AreItems}
-use Rattle.knap_bound.specs.Knapsacks.{IsLater}
 use Rattle.knap_bound.proofs.LaterOrders.{later-limits}
 use Rattle.knap_bound.proofs.knapsack.Knapsack.new.Goals as goal
 

@@ -1,6 +1,6 @@
 use Rattle.std.proofs.Common.{◌≡◌, ℕ, ◌<◌, ◌≤◌}
 use Rattle.least_slacks.specs.Items.{item_at}
-use Rattle.least_slacks.proofs.colour_layers.run_end.Given as goal
+use Rattle.least_slacks.proofs.later_orders.run_end.Given as goal
 
 abbrev pub invariant-loop-t : goal.invariant-loop-t
 invariant-loop-t l =

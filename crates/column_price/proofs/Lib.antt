@@ -1,0 +1,5 @@
+pub mod LeastOfParts
+pub mod ValidByLeast
+pub mod ZeroEnds
+pub mod AtNode
+pub mod SlacksKept

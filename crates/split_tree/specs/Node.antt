@@ -27,8 +27,8 @@ group_of node g = slab g node.path (orders_of node.ranked)
 abbrev pub groups_loss : (ℕ → ℕ) → Node → ℕ
 groups_loss charge node = total (next_new node.path) (λ g. charge (load (group_of node g)))
 
--- an open slab that carries the orders of a group of a node, of the node's mill: they are legal, and
--- there is one at least, so that the slab has a colour
+-- an open slab that carries the orders of a group of a node, of the node's mill: they are legal,
+-- and there is one at least, so that the slab has a colour
 pub record IsGroup (node : Node) (g : ℕ) (group : OpenSlab) : Type 0 where
   pub carries : Carries group (group_of node g)
   pub mill : group.mill ≡ node.ranked.mill

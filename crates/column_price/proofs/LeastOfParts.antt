@@ -1,6 +1,7 @@
--- The least of numbers that come in parts: those of new slabs, and those of one group after another.
+-- The least of numbers that come in parts: those of new slabs, and of one group after another.
 use Rattle.std.proofs.Common.{ℕ, suc, ◌≡◌, ◌⊎◌, Bool, true, false, cond, ◌||◌, List, [], ◌∷◌, ◌++◌}
-use Rattle.std.proofs.Common.{map, filter, flat_map, ℤ, ◌-ℤ◌, ◌≤ℤ◌, Option, Some, None, refl, sym, ap}
+use Rattle.std.proofs.Common.{map, filter, flat_map, ℤ, ◌-ℤ◌, ◌≤ℤ◌, Option, Some, None, refl, sym}
+use Rattle.std.proofs.Common.{ap}
 use Rattle.std.proofs.Common.{subst, ◌∙◌, arith, inl, inr, append-nil, append_assoc}
 use Rattle.std.proofs.lemmas.Int.{ints}
 use Rattle.std.proofs.lemmas.Grind.{flat_map-append}
@@ -12,7 +13,8 @@ use Rattle.list_laws.proofs.Among.{Among, Among-append_left, Among-append_right,
 use Rattle.list_laws.proofs.Among.{Among-filter, any-from}
 use Rattle.list_laws.proofs.Tests.{either, clash}
 use Rattle.mill_model.specs.Prices.{least, legal_sets, slack}
-use Rattle.mill_model.specs.Bounds.{least_of, in_set, first_slack, slacks_on, least_on_with, or_zero}
+use Rattle.mill_model.specs.Bounds.{least_of, in_set, first_slack, slacks_on, least_on_with}
+use Rattle.mill_model.specs.Bounds.{or_zero}
 use Rattle.mill_model.specs.Bounds.{least_on_without, joining_cost}
 use Rattle.mill_laws.proofs.Least.{least-in, least-first, least-among}
 use Rattle.order_symmetry.specs.Ranked.{orders_of}

@@ -53,7 +53,8 @@ module _ (mill : Mill) (charge : ℕ → ℕ) (ranked : List Order) (path : List
   pub stays-without : (g : ℕ) (u low : ℤ) → low ≡ z g u →
       ((x : ℤ) → held g ≡ Some x → low <ℤ (x -ℤ u)) → low ≡ without g
   stays-without g u low e above =
-      same low (without g) (omega (arith, ints, z-without mill charge ranked path fits i ys long g u))
+      same low (without g)
+      (omega (arith, ints, z-without mill charge ranked path fits i ys long g u))
       (elim (either (int_le (without g) low)) [
         | inl t ↦ from-test (without g) low t
         | inr f ↦ (let higher : low <ℤ without g = not-test (without g) low f in

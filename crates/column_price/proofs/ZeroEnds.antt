@@ -9,7 +9,8 @@ use Rattle.mill_model.specs.Slab.{legal}
 use Rattle.mill_model.specs.Plan.{slab}
 use Rattle.mill_model.specs.Tree.{next_new}
 use Rattle.mill_model.specs.Prices.{least}
-use Rattle.mill_model.specs.Bounds.{least_of, or_zero, ascent, ascent_slacks, first_slack, slacks_on}
+use Rattle.mill_model.specs.Bounds.{least_of, or_zero, ascent, ascent_slacks, first_slack}
+use Rattle.mill_model.specs.Bounds.{slacks_on}
 use Rattle.mill_laws.proofs.Ascent.{kept, price-not-negative}
 use Rattle.mill_laws.proofs.Least.{or_zero-le}
 use Rattle.order_symmetry.specs.Ranked.{orders_of}

@@ -1,6 +1,7 @@
 // Numbers that may be missing, and sums of numbers.
 
-ghost use Rattle.std.specs.Prelude.{◌≡◌, ◌≤◌, ◌<◌, ◌<ℤ◌, ◌-ℤ◌, ℕ, ℤ, All, Some, pos, true, length, IfSome};
+ghost use Rattle.std.specs.Prelude.{◌≡◌, ◌≤◌, ◌<◌, ◌<ℤ◌, ◌-ℤ◌, ℕ, ℤ, All, Some, pos, true, length};
+ghost use Rattle.std.specs.Prelude.{IfSome};
 ghost use Rattle.list_laws.specs.Sets.{int_sum};
 ghost use Rattle.mill_model.specs.Bounds.{or_zero};
 ghost use Rattle.mill_model.specs.Limits.{IsPrice};

@@ -1,5 +1,6 @@
 -- Price by price: the first ones are the ascent's, the others still zero.
-use Rattle.std.proofs.Common.{◌≡◌, ◌<◌, ◌∙◌, ℤ, List, length, arith, rules, ap, sym, subst, SFits, w64}
+use Rattle.std.proofs.Common.{◌≡◌, ◌<◌, ◌∙◌, ℤ, List, length, arith, rules, ap, sym, subst, SFits}
+use Rattle.std.proofs.Common.{w64}
 use Rattle.std.proofs.Common.{to_z-of_z}
 use Rattle.mill_model.specs.Charges.{charge_of}
 use Rattle.mill_model.specs.Limits.{IsPrice}
@@ -7,7 +8,8 @@ use Rattle.mill_model.specs.Bounds.{ascent, ascent_slacks, least_of, or_zero}
 use Rattle.mill_laws.proofs.Ascent.{ascent-length}
 use Rattle.order_symmetry.specs.Ranked.{orders_of}
 use Rattle.column_price.specs.Nodes.{Pricing, AreSlacks, rest_of}
-use Rattle.column_price.proofs.AtNode.{ascent-price, slacks-stay}
+use Rattle.column_price.proofs.AtNode.{ascent-price}
+use Rattle.column_price.proofs.ValidSlacks.{slacks-stay}
 use Rattle.column_price.proofs.ascent.raise.Goals as goal
 
 pub ascent_price-price-requires-clause-here : goal.ascent_price-price-requires-clause-here
@@ -31,7 +33,8 @@ set_price-requires-clause-here c =
       c.loop-i-test.true,
       ap length c.prices-i-end.ensures.is,
       c.prices-i-end.ensures.kept.prices.one_each,
-      ap (λ (p : Pricing). length p.prices) (c.ascent_price-price.ensures.kept ∙ c.loop-i.invariant),
+      ap (λ (p : Pricing). length p.prices)
+          (c.ascent_price-price.ensures.kept ∙ c.loop-i.invariant),
       ascent-length start.node.ranked.mill (charge_of start.charges)
           (orders_of start.node.ranked) start.node.path c.loop-i.i,
     )

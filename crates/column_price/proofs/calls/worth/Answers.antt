@@ -1,5 +1,6 @@
 -- Valid just where the least slack of a new slab isn't below zero.
-use Rattle.std.proofs.Common.{◌≡◌, ◌∙◌, ℤ, Option, not, ap, sym, subst, SFits, w64, to_z-of_z, rules}
+use Rattle.std.proofs.Common.{◌≡◌, ◌∙◌, ℤ, Option, not, ap, sym, subst, SFits, w64, to_z-of_z}
+use Rattle.std.proofs.Common.{rules}
 use Rattle.mill_model.specs.Charges.{charge_of}
 use Rattle.mill_model.specs.Bounds.{least_new}
 use Rattle.column_price.specs.Nodes.{Pricing, rest_of, worth_at}

@@ -1,11 +1,13 @@
-use Rattle.std.proofs.Common.{◌+ℤ◌, ◌∙◌, All, length, ap, ap₂, subst, sym, SFits, w64, to_z-of_z, rules, arith}
+use Rattle.std.proofs.Common.{◌+ℤ◌, ◌∙◌, All, length, ap, ap₂, subst, sym, SFits, w64, to_z-of_z}
+use Rattle.std.proofs.Common.{rules, arith}
 use Rattle.std.proofs.lemmas.List.Elements.{All-weaker}
 use Rattle.mill_model.specs.Charges.{charge_of}
 use Rattle.mill_model.specs.Limits.{IsPrice}
 use Rattle.list_laws.specs.Sets.{int_sum}
 use Rattle.set_minima.specs.Cells.{IsSmall}
 use Rattle.split_tree.proofs.Nodes.{few-groups}
-use Rattle.column_price.proofs.AtNode.{worth-is, few-later, small-price}
+use Rattle.column_price.proofs.AtNode.{few-later}
+use Rattle.column_price.proofs.WorthSums.{worth-is, small-price}
 use Rattle.column_price.proofs.node_prices.worth_of.Goals as goal
 
 pub sum_of-requires-clause-few : goal.sum_of-requires-clause-few

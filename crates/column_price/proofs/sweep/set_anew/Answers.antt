@@ -79,7 +79,8 @@ loop-g-preserved c =
       kept = joined.ensures.kept ∙ c.loop-g.invariant.kept;
       best =
           c.lesser_of-best.ensures
-          ∙ ap (λ o. lesser best o) (cost ∙ ap (λ z. less z (held (with_prices start base))) without)
+          ∙ ap (λ o. lesser best o)
+          (cost ∙ ap (λ z. less z (held (with_prices start base))) without)
           ∙ swept-more node charge base i g best c.loop-g.invariant.best
           ∙ ap (λ n. least_of (swept_numbers node charge base i n)) n;
       changed = λ h l. elim (last-or-below h g (omega arith)) [
@@ -141,7 +142,8 @@ returns-clause-groups c =
     subst (λ (ys : List ℤ). AreSlacks node charge ys c.loop-g.groups) (sym prices) (record {
       count = c.loop-g.auto.groups ∙ c.requires.groups.count;
       each = λ h b.
-          c.loop-g.invariant.changed h (omega (arith, c.loop-g.auto.groups, c.requires.groups.count))
+          c.loop-g.invariant.changed h
+          (omega (arith, c.loop-g.auto.groups, c.requires.groups.count))
           ∙ sym (becomes-without node.ranked.mill charge (orders_of node.ranked) node.path
           (slabs node c.prices.ensures.kept.node) i start.prices c.requires.here h
           (omega (arith, c.loop-g.auto.groups, c.requires.groups.count)));

@@ -31,6 +31,7 @@ set_anew-requires-clause-price c =
     let now = sweep start.node.ranked.mill (charge_of start.charges) (orders_of start.node.ranked)
     start.node.path start.prices i in
     subst (λ (p : Pricing). IsPrice (swept_price p.node.ranked.mill (charge_of p.charges)
-    (orders_of p.node.ranked) p.node.path (set p.prices i (pos 0)) i)) (sym c.loop-i.invariant.swept)
+    (orders_of p.node.ranked) p.node.path (set p.prices i (pos 0)) i))
+    (sym c.loop-i.invariant.swept)
     (sweep-price start.node kept.node kept.some_colour c.requires.light start.charges start.prices
     kept.prices c.requires.valid i here now (λ j. now))

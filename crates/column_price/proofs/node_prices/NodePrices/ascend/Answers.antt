@@ -2,7 +2,7 @@ use Rattle.std.proofs.Common.{ℤ, List, subst, sym}
 use Rattle.mill_model.specs.Charges.{charge_of}
 use Rattle.split_tree.specs.Node.{IsNode}
 use Rattle.column_price.specs.Nodes.{Pricing, AreSlacks}
-use Rattle.column_price.proofs.AtNode.{ascent-valid-slacks}
+use Rattle.column_price.proofs.ValidSlacks.{ascent-valid-slacks}
 use Rattle.column_price.proofs.node_prices.NodePrices.ascend.Goals as goal
 
 pub invariant_of-result : goal.invariant_of-result

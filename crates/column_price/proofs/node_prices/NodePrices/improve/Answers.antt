@@ -2,7 +2,7 @@
 use Rattle.std.proofs.Common.{◌≤ℤ◌, subst, sym, rules}
 use Rattle.mill_model.specs.Charges.{charge_of}
 use Rattle.column_price.specs.Nodes.{Pricing, AreValidSlacks, EachIsLight, worth_at}
-use Rattle.column_price.proofs.AtNode.{swept-valid-slacks, swept-no-less, written-back}
+use Rattle.column_price.proofs.ValidSlacks.{swept-valid-slacks, swept-no-less, written-back}
 use Rattle.column_price.proofs.node_prices.NodePrices.improve.Goals as goal
 
 pub invariant_of-self : goal.invariant_of-self

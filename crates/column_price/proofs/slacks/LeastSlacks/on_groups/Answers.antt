@@ -7,7 +7,7 @@ use Rattle.mill_model.specs.Prices.{least_slack}
 use Rattle.set_minima.specs.Cells.{IsSmall}
 use Rattle.split_tree.specs.Node.{group_of}
 use Rattle.column_price.specs.Nodes.{Pricing, rest_of}
-use Rattle.column_price.proofs.AtNode.{push-each}
+use Rattle.column_price.proofs.WorthSums.{push-each}
 use Rattle.column_price.proofs.slacks.LeastSlacks.on_groups.Goals as goal
 
 pub loop-g-preserved : goal.loop-g-preserved
@@ -18,7 +18,8 @@ loop-g-preserved c =
     let f : SFits w64 z = search rules in
     let least = λ (p : Pricing) (g : ℕ). least_slack p.node.ranked.mill (charge_of p.charges)
     (group_of p.node g) (rest_of p.node) p.prices in
-    let e : c.push.new.self.items ≡ items ++ z ∷ [] = simp to_z-of_z at c.in_ok-push.ensures.items in
+    let e : c.push.new.self.items ≡ items ++ z ∷ [] =
+    simp to_z-of_z at c.in_ok-push.ensures.items in
     let is : z ≡ least start c.loop-g.g =
     subst (λ (p : Pricing). z ≡ least p c.loop-g.g) c.loop-g.invariant.kept c.on_group.ensures.is in
     let n : length (items ++ z ∷ []) ≡ length items + 1 = length-append items (z ∷ []) in

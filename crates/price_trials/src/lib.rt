@@ -1,8 +1,13 @@
-//! Trials of least slacks: numbers by hand, each public function once with memory enough. There is
-//! nothing here but tests.
+//! Trials of least slacks, of prices and of what they are worth: numbers by hand, small nodes
+//! beside minima over all sets, each public function once with memory enough. There is nothing here
+//! but tests.
 #![tactic(auto)]
 
+#[cfg(test)]
+mod all_sets;
 #[cfg(test)]
 mod knapsacks;
 #[cfg(test)]
 mod mill;
+#[cfg(test)]
+mod prices;

@@ -3,13 +3,15 @@ use Rattle.std.proofs.Common.{ℕ, suc, ◌≤◌, ◌≡◌, ◌↔◌, true, f
 use Rattle.std.proofs.Common.{leb, Some, refl, sym, ◌∙◌, arith, inl, inr, eqb-true, false-eqb}
 use Rattle.std.proofs.Common.{leb-true, leb-false}
 use Rattle.std.specs.List.{slice_get}
+use Rattle.std.proofs.lemmas.List.{length-append}
+use Rattle.list_laws.specs.Sets.{holds}
 use Rattle.mill_model.specs.Slab.{Mill, legal}
 use Rattle.mill_model.specs.declared.order.Order.{Order}
 use Rattle.list_laws.proofs.Tests.{either}
 use Rattle.mill_laws.proofs.Groups.{slab-new, next_new-push}
 use Rattle.order_symmetry.specs.Ranked.{orders_of}
 use Rattle.slab_rules.specs.OpenSlab.{OpenSlab, empty_on, joined, IsWithinBounds, IsOpenSlab}
-use Rattle.slab_rules.specs.OpenSlab.{Carries}
+use Rattle.slab_rules.specs.OpenSlab.{Carries, with_colour}
 use Rattle.slab_rules.proofs.Joined.{Carries-joined, IsOpenSlab-joined, once-with_colour}
 use Rattle.slab_rules.proofs.Joined.{bounds-legal}
 use Rattle.split_tree.specs.Node.{Node, IsGroup, AreGroups, group_of}
@@ -38,6 +40,23 @@ pub empty-is : (mill : Mill) (largest p : ℕ) (empty : OpenSlab) → largest �
 empty-is mill largest p empty l c e =
     e ∙ (λ i. empty_on (record { largest = l i; most_colours = c i }))
 
+-- a slab has a colour when an order has joined it
+some-colour : (cs : List ℕ) (c : ℕ) → 1 ≤ length (with_colour cs c)
+some-colour cs c = elim (either (holds c cs)) [
+  | inl old ↦ rw old (some cs old)
+  | inr new ↦ rw (new, length-append) (omega arith)
+]
+  where
+    some : (cs : List ℕ) → holds c cs ≡ true → 1 ≤ length cs
+    some [] h = absurd (cc)
+    some (x ∷ cs) h = omega arith
+
+-- a slab that an order may be about to join: it carries the orders of a group, if there are any
+record IsTarget (node : Node) (g : ℕ) (target : OpenSlab) : Type 0 where
+  carries : Carries target (group_of node g)
+  mill : target.mill ≡ node.ranked.mill
+  open_slab : IsOpenSlab target
+
 module _ (node : Node) (g : ℕ) (order : Order)
     (next : slice_get (orders_of node.ranked) (length node.path) ≡ Some order)
     (groups : List OpenSlab) (is : AreGroups node groups) (low : g ≤ length groups)
@@ -49,10 +68,12 @@ module _ (node : Node) (g : ℕ) (order : Order)
   same : group_of grown g ≡ group_of node g ++ order ∷ []
   same = slab-same node.path (orders_of node.ranked) g order next
 
-  -- what the order joins
-  target : IsGroup node g (slab_at empty groups g)
+  -- what the order joins: a group, or the empty slab of a new one
+  target : IsTarget node g (slab_at empty groups g)
   target = elim (either (leb (suc g) (length groups))) [
-    | inl h ↦ is.each g (slab_at empty groups g) (slab_at-get empty groups g (leb-true _ _ h))
+    | inl h ↦ (let group : IsGroup node g (slab_at empty groups g) =
+        is.each g (slab_at empty groups g) (slab_at-get empty groups g (leb-true _ _ h)) in
+        record { carries = group.carries; mill = group.mill; open_slab = group.open_slab })
     | inr h ↦ (let l : length groups ≤ g = omega (arith, leb-false _ _ h) in
         rw (slab_at-new empty groups g l) (record {
           carries =
@@ -84,6 +105,8 @@ module _ (node : Node) (g : ℕ) (order : Order)
       mill = rw e target.mill;
       open_slab =
           rw e (IsOpenSlab-joined (slab_at empty groups g) order target.open_slab fits);
+      is_legal = fits-legal.0 fits;
+      some_colour = rw e (some-colour (slab_at empty groups g).colours order.colour);
     }
 
     old-group : (s : ℕ) (old : OpenSlab) → eqb s g ≡ false → slice_get groups s ≡ Some old →
@@ -95,6 +118,9 @@ module _ (node : Node) (g : ℕ) (order : Order)
               rw (slab-other node.path (orders_of node.ranked) g order next s h) was.carries;
           mill = was.mill;
           open_slab = was.open_slab;
+          is_legal =
+              rw (slab-other node.path (orders_of node.ranked) g order next s h) was.is_legal;
+          some_colour = was.some_colour;
         }
 
     -- and then these are the groups

@@ -1,7 +1,7 @@
 -- A node of the tree of paths, and its groups.
-use Rattle.std.specs.Prelude.{ℕ, ◌≡◌, true, cond, List, length, Some, slice_get}
+use Rattle.std.specs.Prelude.{ℕ, ◌≡◌, ◌≤◌, true, cond, List, length, Some, slice_get}
 use Rattle.list_laws.specs.Sets.{total}
-use Rattle.mill_model.specs.Slab.{load}
+use Rattle.mill_model.specs.Slab.{load, legal}
 use Rattle.mill_model.specs.Plan.{slab}
 use Rattle.mill_model.specs.Rank.{starts_class_in}
 use Rattle.mill_model.specs.Tree.{next_new, last_number, in_tree}
@@ -27,11 +27,14 @@ group_of node g = slab g node.path (orders_of node.ranked)
 abbrev pub groups_loss : (ℕ → ℕ) → Node → ℕ
 groups_loss charge node = total (next_new node.path) (λ g. charge (load (group_of node g)))
 
--- an open slab that carries the orders of a group of a node, of the node's mill
+-- an open slab that carries the orders of a group of a node, of the node's mill: they are legal,
+-- and there is one at least, so that the slab has a colour
 pub record IsGroup (node : Node) (g : ℕ) (group : OpenSlab) : Type 0 where
   pub carries : Carries group (group_of node g)
   pub mill : group.mill ≡ node.ranked.mill
   pub open_slab : IsOpenSlab group
+  pub is_legal : legal node.ranked.mill (group_of node g) ≡ true
+  pub some_colour : 1 ≤ length group.colours
 
 -- open slabs that are the groups of a node, by rising number
 pub record AreGroups (node : Node) (groups : List OpenSlab) : Type 0 where

@@ -1,0 +1,12 @@
+//! Prices at a node of the tree: the greedy ascent, one sweep, and what prices are worth.
+#![tactic(auto)]
+
+mod ascent;
+mod calls;
+mod node_prices;
+mod numbers;
+mod slacks;
+mod sweep;
+
+pub use calls::{ascend, improve, worth};
+pub use node_prices::NodePrices;

@@ -36,7 +36,8 @@ module _ (node : Node) (later : Later) (at : IsAt node later) where
 
 -- what a knapsack says of its orders under some prices, it says of the pricing that it serves
 pub of-pricing : {X : Type 0} (f : Node → Mill → (ℕ → ℕ) → List Order → List ℤ → X)
-    (pricing : Pricing) (node : Node) (later : Later) (items prices : List ℤ) → IsAt node later → prices ≡ items →
+    (pricing : Pricing) (node : Node) (later : Later) (items prices : List ℤ) →
+    IsAt node later → prices ≡ items →
     record { node = node; charges = later.charges; prices = items } ≡ pricing → (x : X) →
     x ≡ f node later.mill (charge_of later.charges) later.orders prices →
     x ≡ f pricing.node pricing.node.ranked.mill (charge_of pricing.charges) (rest_of pricing.node)

@@ -1,4 +1,5 @@
-//! A mill with the one size 4, its charges, and orders in rank. Orders and ranks are counted from 0.
+//! A mill with the one size 4, its charges, and orders in rank. Orders and ranks are counted from
+//! 0.
 ghost use Rattle.std.specs.Prelude.{◌≡◌, ◌≤◌, All, IfOk, IsTrue, length};
 ghost use Rattle.mill_model.specs.declared.order.TheConstants.{MAX_ORDERS};
 ghost use Rattle.order_symmetry.specs.Ranked.{orders_of};

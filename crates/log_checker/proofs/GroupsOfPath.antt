@@ -3,7 +3,8 @@ use Rattle.std.proofs.Common.{ℕ, zero, suc, ◌+◌, ◌<◌, ◌≤◌, ◌�
 use Rattle.std.proofs.Common.{◌||◌, List, [], ◌∷◌, ◌++◌, map, length, take, get_or, eqb, leb, refl}
 use Rattle.std.proofs.Common.{sym, ap, ap₂, ◌∙◌, subst, arith, inl, inr, length-append, eq-eqb}
 use Rattle.std.proofs.Common.{ne_eqb, eqb-true, set, get_or-set_same, get_or-set_other}
-use Rattle.std.proofs.Common.{◌*◌, ◌≢◌}
+use Rattle.std.proofs.Common.{◌*◌, ◌≢◌, drop, ltb, ltb-true, leb-true}
+use Rattle.std.specs.List.{list_all}
 use Rattle.std.proofs.lemmas.List.{take_all, length-set, append-nil, get_or_past, map-append}
 use Rattle.list_laws.specs.Sets.{holds, different}
 use Rattle.mill_model.specs.Slab.{Mill, load, colours, legal}
@@ -12,7 +13,8 @@ use Rattle.mill_model.specs.Tree.{next_new}
 use Rattle.mill_model.specs.LiveKey.{has_colour}
 use Rattle.mill_model.specs.declared.order.Order.{Order}
 use Rattle.mill_model.proofs.Slabs.{slab-unused, load-append}
-use Rattle.list_laws.proofs.Tests.{either}
+use Rattle.list_laws.proofs.Tests.{either, and-left, and-right}
+use Rattle.refute_log.specs.Fits.{path_fits}
 use Rattle.list_laws.proofs.Different.{holds-append, different-push}
 use Rattle.mill_model.specs.declared.order.TheConstants.{MAX_ORDERS}
 use Rattle.log_checker.specs.Groups.{Seen, joined, may_be, IsSeen, nothing_seen, AreGroups}
@@ -102,6 +104,35 @@ number-below i [] h = absurd (omega arith)
 number-below zero (g ∷ path) h = omega arith
 number-below (suc i) (g ∷ path) h =
     let ih : get_or path i 0 < next_new path = number-below i path (omega arith) in omega arith
+
+-- a path that fits so many orders has no more numbers than that, and names no more groups
+pub path-within : (n : ℕ) (path : List ℕ) → path_fits n path ≡ true → length path ≤ n
+path-within n path h = leb-true (length path) n (and-left _ (list_all (λ g. ltb g n) path) h)
+
+pub numbers-few : (n : ℕ) (path : List ℕ) → path_fits n path ≡ true → next_new path ≤ n
+numbers-few n path h = go path (and-right _ (list_all (λ g. ltb g n) path) h)
+  where
+    go : (path : List ℕ) → list_all (λ g. ltb g n) path ≡ true → next_new path ≤ n
+    go [] h = omega arith
+    go (g ∷ path) h =
+        let a : g < n =
+        ltb-true g n (and-left (ltb g n) (list_all (λ g. ltb g n) path) h) in
+        let ih : next_new path ≤ n =
+        go path (and-right (ltb g n) (list_all (λ g. ltb g n) path) h) in omega arith
+
+-- groups that were filled in place are as many as there were empty ones
+pub filled : (new old : List Seen) (path : List ℕ) (n : ℕ) (ranked : List Order) →
+    AreGroups new path ranked → n ≡ next_new path →
+    AreGroups (take n (new ++ drop (length new) old)) path ranked
+filled new old path n ranked it e =
+    subst (λ gs. AreGroups gs path ranked) (sym (front new (drop (length new) old) n
+    (it.count ∙ sym e))) it
+  where
+    front : (xs ys : List Seen) (n : ℕ) → length xs ≡ n → take n (xs ++ ys) ≡ xs
+    front [] ys zero h = refl
+    front [] ys (suc n) h = absurd (omega arith)
+    front (x ∷ xs) ys zero h = absurd (omega arith)
+    front (x ∷ xs) ys (suc n) h = ap (λ l. x ∷ l) (front xs ys n (omega arith))
 
 -- the groups of the first numbers of a path
 pub record GroupsTo (groups : List Seen) (path : List ℕ) (ranked : List Order) (i : ℕ) : Type 0

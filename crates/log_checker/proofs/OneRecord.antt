@@ -1,7 +1,7 @@
 -- One record of a pass.
 use Rattle.std.proofs.Common.{ℕ, zero, suc, ◌+◌, ◌<◌, ◌≤◌, ◌≡◌, Bool, true, false, cond, List, []}
 use Rattle.std.proofs.Common.{◌∷◌, ◌++◌, length, drop, get_or, map, refl, sym, ap, ◌∙◌, subst}
-use Rattle.std.proofs.Common.{arith, ltb-true, filter, ltb, lt-ltb, ◌-◌}
+use Rattle.std.proofs.Common.{arith, filter, ltb, lt-ltb, ◌-◌}
 use Rattle.std.proofs.lemmas.List.{drop_more, reverse-append, append-nil, drop_all}
 use Rattle.std.specs.List.{list_all}
 use Rattle.list_laws.specs.Sets.{same_list, below}
@@ -10,7 +10,6 @@ use Rattle.mill_model.specs.Log.{Task, recorded, left_open}
 use Rattle.mill_model.specs.declared.closing.Entry.{Entry}
 use Rattle.list_laws.proofs.Tests.{and-left, and-right}
 use Rattle.refute_log.specs.Rising.{rises}
-use Rattle.refute_log.specs.Fits.{path_fits}
 use Rattle.log_checker.specs.Verdict.{holds_up, verdict_from, IsVerdict}
 use Rattle.log_checker.specs.Agenda.{wanted_path, to_come, is_within, opened, opened_from}
 use Rattle.log_checker.proofs.WaitingPaths.{opened-come}
@@ -37,17 +36,6 @@ recorded-at log i e h q = at log i e h ∙ ap (λ (x : Entry). x.path) (sym q)
 pub rest-from : (log : List Entry) (i : ℕ) (e : Entry) → i < length log → e ≡ get_or log i e →
     drop i log ≡ e ∷ drop (i + 1) log
 rest-from log i e h q = drop_more log i e h ∙ ap (λ x. x ∷ drop (i + 1) log) (sym q)
-
-pub numbers-few : (n : ℕ) (path : List ℕ) → path_fits n path ≡ true → next_new path ≤ n
-numbers-few n path h = go path (and-right _ (list_all (λ g. ltb g n) path) h)
-  where
-    go : (path : List ℕ) → list_all (λ g. ltb g n) path ≡ true → next_new path ≤ n
-    go [] h = omega arith
-    go (g ∷ path) h =
-        let a : g < n =
-        ltb-true g n (and-left (ltb g n) (list_all (λ g. ltb g n) path) h) in
-        let ih : next_new path ≤ n =
-        go path (and-right (ltb g n) (list_all (λ g. ltb g n) path) h) in omega arith
 
 -- what is to come, before and after the last waiting one is taken
 pub come-push : (log : List Entry) (old new : List Wanted) (w : Wanted) → old ≡ new

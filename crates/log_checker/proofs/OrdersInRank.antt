@@ -12,7 +12,7 @@ use Rattle.mill_laws.specs.RankLaws.{Rising}
 use Rattle.mill_laws.proofs.Ranking.{rank-rising}
 use Rattle.mill_laws.proofs.Settle.{same_order-eq}
 use Rattle.mill_model.specs.declared.order.Order.{Order}
-use Rattle.list_laws.proofs.Among.{Among, Among-unmap, each-at}
+use Rattle.list_laws.proofs.Among.{Among-unmap, each-at}
 use Rattle.list_laws.proofs.Tests.{either}
 use Rattle.list_laws.proofs.InOrder.{InOrder, ordered-same, times-moved}
 

@@ -3,7 +3,7 @@ use Rattle.std.proofs.Common.{ℕ, suc, ◌+◌, ◌<◌, ◌≡◌, ◌⊎◌, 
 use Rattle.std.proofs.Common.{List, [], ◌∷◌, ◌++◌, refl, sym, ap, ◌∙◌, subst, arith, inl, inr}
 use Rattle.std.proofs.Common.{append_assoc}
 use Rattle.std.specs.List.{list_all, AllByRecursion}
-use Rattle.list_laws.specs.Sets.{same_list, times, below}
+use Rattle.list_laws.specs.Sets.{same_list, times}
 use Rattle.mill_model.specs.Tree.{next_new, may_go_on}
 use Rattle.mill_model.specs.Log.{Task, sound, recorded, left_open, split_children, names_settled}
 use Rattle.mill_model.proofs.Records.{recorded-append, split-append}

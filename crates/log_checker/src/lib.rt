@@ -5,12 +5,13 @@
 mod agenda;
 mod check;
 mod dominated;
+mod from_instance;
+mod grouped_path;
 mod groups;
 mod keys;
 mod live;
 mod price;
 mod rules;
-mod setting;
 mod sound;
 mod tree;
 mod verdict;

@@ -1,28 +1,24 @@
-// Records by prices.
+// Records by prices: the least slack of each group of a path, the sum of them and of the prices.
 
-ghost use Rattle.std.specs.Prelude.{◌≡◌, ◌<◌, ◌≤◌, ◌+◌, ◌*◌, ℕ, IfOk, All, true, drop, length, map};
-ghost use Rattle.std.specs.Prelude.{slice_index, slice_index_or, slice_set, ◌-ℤ◌, ◌*ℤ◌, pos};
-ghost use Rattle.std.specs.Prelude.{int_lt};
+ghost use Rattle.std.specs.Prelude.{◌≡◌, ◌<◌, ◌≤◌, ◌+◌, ◌*◌, ℕ, IfOk, All, length, map, true};
+ghost use Rattle.std.specs.Prelude.{slice_index_or, slice_set, ◌-ℤ◌, ◌*ℤ◌, pos, int_lt};
 ghost use Rattle.list_laws.specs.Sets.{int_sum};
 ghost use Rattle.mill_model.specs.Limits.{IsPrice};
 ghost use Rattle.mill_model.specs.Log.{sound};
 ghost use Rattle.mill_model.specs.Tree.{next_new};
 ghost use Rattle.mill_model.specs.declared.closing.Closing.TheVariants.{Priced};
-ghost use Rattle.refute_log.specs.Fits.{path_fits};
-ghost use Rattle.set_minima.specs.Cells.{IsSmall};
-ghost use Rattle.least_slacks.specs.Keys.{AreLeast, HasRoom};
-ghost use Rattle.least_slacks.specs.Limits.{mill_within};
-ghost use Rattle.log_checker.specs.Groups.{AreGroups, nothing_seen};
-ghost use Rattle.log_checker.specs.ByRules.{mill_by, task_by};
-ghost use Rattle.log_checker.specs.Keys.{AreSorted, key_in};
-ghost use Rattle.log_checker.specs.Slacks.{AreSlacks, slack_of};
 ghost use Rattle.mill_model.specs.declared.order.TheConstants.{MAX_ORDERS};
+ghost use Rattle.set_minima.specs.Cells.{IsSmall};
+ghost use Rattle.least_slacks.specs.Keys.{HasRoom};
+ghost use Rattle.log_checker.specs.ByRules.{mill_by, task_by, charge_by};
+ghost use Rattle.log_checker.specs.Keys.{AreSorted, key_in};
+ghost use Rattle.log_checker.specs.PathGroups.{group_of, later};
+ghost use Rattle.log_checker.specs.Slacks.{AreLiveSlacks, AreSlacks, slack_of};
 
-use crate::groups::{Group, groups_of};
+use crate::grouped_path::GroupedPath;
 use crate::keys::{LiveGroup, sorted_live};
-use crate::rules::Rules;
-use least_slacks::{Key, SlabLimits, SlackTables, least_slacks};
-use mill_model::{OutOfMemory, Prices};
+use least_slacks::{Key, SlackTables, least_slacks};
+use mill_model::OutOfMemory;
 use std::alloc::Global;
 
 /// The keys of some live groups.
@@ -42,17 +38,16 @@ fn set_slack(slacks: &mut Vec<i64>, g: usize, slack: i64)
 }
 
 /// What each group is charged, 60 times.
-fn charges_of(alloc: Global, rules: &Rules, groups: &[Group]) -> Result<Vec<i64>, OutOfMemory>
-    ensures long { IfOk result (λ slacks. length slacks.items ≡ length groups.now) }
+fn charges_of(alloc: Global, path: &GroupedPath) -> Result<Vec<i64>, OutOfMemory>
+    ensures long { IfOk result (λ slacks. length slacks.items ≡ length path.now.groups.items) }
     ensures small { IfOk result (λ slacks. All (IsSmall 30000000000000) slacks.items) }
-    ensures each { IfOk result (λ slacks. (g : ℕ) → g < length groups.now →
-        slice_index_or slacks.items g (pos 0) ≡ pos (60 * slice_index rules.now.charges.items
-        (slice_index_or groups.now g nothing_seen).load)) }
+    ensures each { IfOk result (λ slacks. (g : ℕ) → g < length path.now.groups.items →
+        slice_index_or slacks.items g (pos 0)
+        ≡ pos (60 * charge_by path.now.rules.now (group_of path.now g).load)) }
 {
     let mut slacks = Vec::new(alloc);
-    for g in 0..groups.len() {
-        let slack = (60 * rules.charge(groups[g].load())) as i64;
-        slacks.push(slack)?;
+    for g in 0..path.groups.len() {
+        slacks.push((60 * path.charge_of(g)) as i64)?;
     }
     Ok(slacks)
 }
@@ -60,28 +55,21 @@ fn charges_of(alloc: Global, rules: &Rules, groups: &[Group]) -> Result<Vec<i64>
 /// The least slack of each group of a path, where those of the live ones are given.
 fn slacks_of(
     alloc: Global,
-    rules: &Rules,
-    limits: &SlabLimits,
-    path: &[u16],
+    path: &GroupedPath,
     prices: &[i64],
-    groups: &[Group],
     live: &[LiveGroup],
     least: &[i64],
 ) -> Result<Vec<i64>, OutOfMemory>
-    requires rank { length path.now ≤ length rules.now.ranked.items }
-    requires same { length path.now + length prices.now ≡ length rules.now.ranked.items }
-    requires groups { AreGroups groups.now path.now rules.now.ranked.items }
-    requires live { AreSorted (mill_by rules.now) (drop (length path.now) rules.now.ranked.items)
-        groups.now live.now }
-    requires mill { mill_within limits.now ≡ mill_by rules.now }
-    requires charges { limits.now.charges.now ≡ rules.now.charges.items }
-    requires least { AreLeast limits.now (drop (length path.now) rules.now.ranked.items) prices.now
-        (map key_in live.now) least.now }
-    ensures { IfOk result (λ slacks. AreSlacks (next_new path.now) (slack_of (mill_by rules.now)
-        rules.now.charges.items rules.now.ranked.items path.now prices.now)
-        slacks.items) }
+    requires same { length path.now.path.now + length prices.now
+        ≡ length path.now.rules.now.ranked.items }
+    requires live { AreSorted (mill_by path.now.rules.now) (later path.now) path.now.groups.items
+        live.now }
+    requires long { length least.now ≡ length live.now }
+    requires least { AreLiveSlacks (slack_of path.now prices.now) live.now least.now }
+    ensures { IfOk result (λ slacks. AreSlacks (next_new path.now.path.now)
+        (slack_of path.now prices.now) slacks.items) }
 {
-    let mut slacks = charges_of(alloc, rules, groups)?;
+    let mut slacks = charges_of(alloc, path)?;
     for i in 0..live.len() {
         set_slack(&mut slacks, live[i].group, least[i]);
     }
@@ -110,53 +98,29 @@ fn exceeds(worth: i64, loss: u64) -> bool
 }
 
 /// Whether prices of the later orders of a path are valid, and worth more than any lesser loss.
-fn over_later(
+pub(crate) fn priced_is_sound(
     alloc: Global,
-    rules: &Rules,
     tables: &mut SlackTables,
-    loss: u64,
-    path: &[u16],
+    path: &GroupedPath,
     prices: &[i64],
+    loss: u64,
 ) -> Result<bool, OutOfMemory>
-    requires fits { path_fits (length rules.now.ranked.items) path.now ≡ true }
-    requires same { length path.now + length prices.now ≡ length rules.now.ranked.items }
+    requires same { length path.now.path.now + length prices.now
+        ≡ length path.now.rules.now.ranked.items }
     requires priced { All IsPrice prices.now }
-    requires room { HasRoom rules.now.largest rules.now.most_colours tables.old }
-    ensures is { IfOk result (λ yes. yes ≡ sound (task_by rules.now) loss path.now
-        (Priced prices.now)) }
-    ensures room { HasRoom rules.now.largest rules.now.most_colours tables.new }
+    requires room { HasRoom path.now.rules.now.largest path.now.rules.now.most_colours tables.old }
+    ensures is { IfOk result (λ yes. yes ≡ sound (task_by path.now.rules.now) loss
+        path.now.path.now (Priced prices.now)) }
+    ensures room { HasRoom path.now.rules.now.largest path.now.rules.now.most_colours tables.new }
 {
-    let rest = rules.later(path.len());
-    let groups = groups_of(alloc, rules, path)?;
-    let live = sorted_live(alloc, rules, &groups, path.len())?;
+    let rest = path.rules.later(path.path.len());
+    let live = sorted_live(alloc, path)?;
     let keys = keys_of(alloc, &live)?;
-    let limits = rules.limits();
+    let limits = path.rules.limits();
     let found = least_slacks(alloc, tables, &limits, rest, prices, &keys)?;
     let Some(least) = found else {
         return Ok(false);
     };
-    let slacks = slacks_of(alloc, rules, &limits, path, prices, &groups, &live, &least)?;
+    let slacks = slacks_of(alloc, path, prices, &live, &least)?;
     Ok(exceeds(sum_of(&slacks) + sum_of(prices), loss))
-}
-
-/// Whether a record by prices is sound.
-pub(crate) fn priced_is_sound(
-    alloc: Global,
-    rules: &Rules,
-    tables: &mut SlackTables,
-    loss: u64,
-    path: &[u16],
-    prices: &Prices,
-) -> Result<bool, OutOfMemory>
-    requires fits { path_fits (length rules.now.ranked.items) path.now ≡ true }
-    requires room { HasRoom rules.now.largest rules.now.most_colours tables.old }
-    ensures is { IfOk result (λ yes. yes ≡ sound (task_by rules.now) loss path.now
-        (Priced prices.now)) }
-    ensures room { HasRoom rules.now.largest rules.now.most_colours tables.new }
-{
-    let list = prices.list();
-    if path.len() > rules.ranked.len() || list.len() != rules.ranked.len() - path.len() {
-        return Ok(false);
-    }
-    over_later(alloc, rules, tables, loss, path, list)
 }

@@ -3,15 +3,16 @@
 ghost use Rattle.std.specs.Prelude.{◌≡◌, ◌<◌, ◌≤◌, ◌+◌, true, length, slice_index, slice_index_or};
 ghost use Rattle.std.specs.Prelude.{drop, eqb, IfSome, IfNone, []};
 ghost use Rattle.mill_model.specs.LiveKey.{has_colour};
+ghost use Rattle.mill_model.specs.declared.charges.TheConstants.{MAX_CHARGE};
 ghost use Rattle.log_checker.specs.Groups.{no_order};
 ghost use Rattle.log_checker.specs.Live.{IsLightest, AreNone};
 ghost use Rattle.log_checker.specs.Setting.{IsSetting, AreEnds};
-ghost use Rattle.mill_model.specs.declared.charges.TheConstants.{MAX_CHARGE};
 
 use least_slacks::SlabLimits;
 use mill_model::Order;
 
 /// What a log is judged by: the orders in rank, the charge of each load, and what a slab may hold.
+/// The charges are a slice, as the least slacks read them.
 #[derive(Drop)]
 pub(crate) struct Rules {
     pub(crate) ranked: Vec<Order>,

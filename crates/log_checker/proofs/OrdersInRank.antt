@@ -1,4 +1,7 @@
--- Orders in rank, by two stable sorts.
+-- Orders in rank, by two stable sorts: by colour, and then by weight, which leaves orders of one
+-- weight as they were. No order then stands before one that precedes it, and the orders of a file
+-- make only one such list. (The rank of mill_laws has the places too, which the checker doesn't
+-- keep.)
 use Rattle.std.proofs.Common.{ℕ, suc, ◌+◌, ◌-◌, ◌<◌, ◌≤◌, ◌≡◌, true, false, cond, subst, List, []}
 use Rattle.std.proofs.Common.{◌∷◌, map, length, get_or, refl, sym, ap, ap₂, ◌∙◌, arith, inl, inr}
 use Rattle.std.proofs.lemmas.Bool.Decides.{nat_tests}

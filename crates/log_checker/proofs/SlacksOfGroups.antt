@@ -1,10 +1,12 @@
--- The slacks of the groups of a path: one for the live groups of one key, and for each
--- other group what its load is charged.
+-- The slacks of the groups of a path: one for the live groups of one key, and for each other group
+-- what its load is charged. The key of a live group says of its colours what a knapsack over the
+-- later orders asks; a group that isn't live takes no order, so its least slack is its charge.
 use Rattle.std.proofs.Common.{ℕ, zero, suc, ◌+◌, ◌*◌, ◌<◌, ◌≤◌, ◌≡◌, ◌⊎◌, Bool, true, false, List}
 use Rattle.std.proofs.Common.{[], ◌∷◌, map, drop, length, get_or, set, eqb, eq-eqb, eqb-true, refl}
 use Rattle.std.proofs.Common.{sym, ap, ◌∙◌, subst, arith, inl, inr, All, ℤ, pos, slice_index, ◌+ℤ◌}
 use Rattle.std.proofs.Common.{◌++◌, take, ◌&&◌, ◌||◌, ltb, lt-ltb, cond, zero-add, ap₂}
 use Rattle.std.proofs.lemmas.Bool.Decides.{nat_tests}
+use Rattle.std.proofs.Math.Seq.{take-suc}
 use Rattle.std.proofs.lemmas.Int.{ints}
 use Rattle.std.proofs.lemmas.List.{take_all, drop_all, drop_more, get_or-set_same, get_or-set_other}
 use Rattle.std.proofs.lemmas.List.{length-map}
@@ -46,9 +48,6 @@ among-sorted mill rest groups sorted g it =
     times-moved eqb g (map group_in it.plain) (map group_in sorted)
     (IsPermutation-map group_in it.plain sorted it.moved) ∙ ap (times eqb g) it.live.numbers
 
-eqb-is : (x y : ℕ) → eqb x y ≡ true → x ≡ y
-eqb-is x y h = eqb-true x y h
-
 map-at : (live : List LiveGroup) (i : ℕ) → i < length live →
     Among (get_or live i no_live).group (map group_in live)
 map-at [] i h = absurd (omega arith)
@@ -67,7 +66,7 @@ sorted-lives mill rest groups sorted i it h =
     let b : times eqb g (map group_in sorted) ≡ times eqb g (live_of mill rest groups) =
     among-sorted mill rest groups sorted g it in
     let m : Among g (live_of mill rest groups) =
-    times-among eqb eqb-is g (live_of mill rest groups) (omega arith) in
+    times-among eqb eqb-true g (live_of mill rest groups) (omega arith) in
     let u = Among-unfilter (λ g. lives mill rest (get_or groups g nothing_seen)) g
     (below (length groups)) m in
     (below-lt g (length groups) u.0, u.1)
@@ -218,7 +217,7 @@ charged-first its prices sorted slack g same s h e = go (is_alive g) refl
         let a : 0 < times eqb g alive = times-pos eqb (λ x. eq-eqb x x refl) g alive m in
         let b : times eqb g (map group_in sorted) ≡ times eqb g alive =
         among-sorted (mill_by its.rules.now) (later its) its.groups.items sorted g s in
-        inr (times-among eqb eqb-is g (map group_in sorted) (omega arith))
+        inr (times-among eqb eqb-true g (map group_in sorted) (omega arith))
     go false l =
         let group : List Order = slab g its.path.now its.rules.now.ranked.items in
         let dead : is_live (mill_by its.rules.now) (later its) group ≡ false =
@@ -284,19 +283,13 @@ slacks-sum slack slacks n long each =
     go zero h = refl
     go (suc m) h =
         let t : take (suc m) slacks ≡ take m slacks ++ get_or slacks m (pos 0) ∷ [] =
-        more m slacks (omega (arith, long)) in
+        take-suc slacks m (pos 0) (omega (arith, long)) in
         let e : get_or slacks m (pos 0) ≡ slack m = each m (omega arith) in
         let s : int_sum (take m slacks ++ slack m ∷ []) ≡ int_sum (take m slacks) +ℤ slack m =
         sum-push (take m slacks) (slack m) in
         ap int_sum (t ∙ ap (λ z. take m slacks ++ z ∷ []) e) ∙ s
         ∙ ap (λ z. z +ℤ slack m) (go m (omega arith))
       where
-        more : (i : ℕ) (xs : List ℤ) → i < length xs →
-            take (suc i) xs ≡ take i xs ++ get_or xs i (pos 0) ∷ []
-        more i [] h = absurd (omega arith)
-        more zero (x ∷ xs) h = refl
-        more (suc i) (x ∷ xs) h = ap (λ l. x ∷ l) (more i xs (omega arith))
-
         sum-push : (xs : List ℤ) (z : ℤ) → int_sum (xs ++ z ∷ []) ≡ int_sum xs +ℤ z
         sum-push [] z = omega (arith, ints)
         sum-push (x ∷ xs) z =

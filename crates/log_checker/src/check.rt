@@ -1,20 +1,20 @@
 // One pass over a log, with the paths that are still to come.
 
-ghost use Rattle.std.specs.Prelude.{◌≡◌, ◌<◌, ◌≤◌, ◌+◌, ◌↔◌, ℕ, [], ◌∷◌, ◌++◌, drop, length, IfOk};
-ghost use Rattle.std.specs.Prelude.{OnOk, IfSome, IfNone, true, false, List, cond};
+ghost use Rattle.std.specs.Prelude.{◌≡◌, ◌<◌, ◌+◌, ◌↔◌, ℕ, drop, length, IfOk};
+ghost use Rattle.std.specs.Prelude.{IfSome, IfNone, true, false, List, cond};
 ghost use Rattle.std.specs.List.{list_all};
 ghost use Rattle.list_laws.specs.Sets.{same_list};
-ghost use Rattle.mill_model.specs.Log.{recorded, left_open, Refutes as LogRefutes};
-ghost use Rattle.refute_log.specs.Rising.{comes_before, path_order, rises};
-ghost use Rattle.refute_log.specs.Fits.{path_fits, fits};
+ghost use Rattle.mill_model.specs.Log.{recorded, Refutes as LogRefutes};
+ghost use Rattle.refute_log.specs.Rising.{comes_before, rises};
+ghost use Rattle.refute_log.specs.Fits.{fits};
 ghost use Rattle.mill_model.specs.Instance.{mill_of};
 ghost use Rattle.mill_model.specs.Plan.{NoneLosesLess};
 ghost use Rattle.mill_model.specs.Charges.{charge_of, Reaches};
 ghost use Rattle.mill_model.specs.Log.{task_of};
-ghost use Rattle.log_checker.specs.ByRules.{task_by, mill_by};
+ghost use Rattle.log_checker.specs.ByRules.{task_by};
 ghost use Rattle.log_checker.specs.Verdict.{is_missing, is_stray, is_unsound, is_wrong, IsFirst};
 ghost use Rattle.log_checker.specs.Verdict.{IsVerdict, verdict_from};
-ghost use Rattle.log_checker.specs.Agenda.{wanted_path, to_come, is_within, is_split, opened_by};
+ghost use Rattle.log_checker.specs.Agenda.{wanted_path, to_come, is_within};
 ghost use Rattle.log_checker.specs.declared.verdict.LogVerdict.TheVariants.{Missing, Stray};
 ghost use Rattle.log_checker.specs.declared.verdict.LogVerdict.TheVariants.{Refutes, Unsound};
 ghost use Rattle.least_slacks.specs.Keys.{HasRoom};

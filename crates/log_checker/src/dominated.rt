@@ -1,7 +1,7 @@
 // Records of dominated paths: the named path has a record that isn't dominated, is in the tree, and
 // has the same live key and no greater dead loss.
 
-ghost use Rattle.std.specs.Prelude.{◌≡◌, ◌<◌, ◌≤◌, ◌-◌, ◌&&◌, IfOk, true, leb, length};
+ghost use Rattle.std.specs.Prelude.{◌≡◌, ◌<◌, ◌-◌, ◌&&◌, IfOk, true, leb, length};
 ghost use Rattle.mill_model.specs.LiveKey.{same_live_key, dead_loss};
 ghost use Rattle.mill_model.specs.Log.{recorded, is_settled, is_dominated};
 ghost use Rattle.mill_model.specs.declared.closing.Closing.TheVariants.{Dominated};

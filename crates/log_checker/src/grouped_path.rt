@@ -1,10 +1,9 @@
 // A path with its groups, which are computed once for each path that a record names.
 
-ghost use Rattle.std.specs.Prelude.{◌≡◌, ◌<◌, ◌≤◌, ◌+◌, ◌*◌, ℕ, true, false, IfOk, IfSome, IfNone, OnOk};
-ghost use Rattle.std.specs.Prelude.{length, replicate, slice_index, slice_index_or};
+ghost use Rattle.std.specs.Prelude.{◌≡◌, ◌<◌, ◌≤◌, ◌+◌, true, false, IfOk, IfSome, IfNone, OnOk};
+ghost use Rattle.std.specs.Prelude.{length, replicate, slice_index_or};
 ghost use Rattle.mill_model.specs.Plan.{loss};
 ghost use Rattle.mill_model.specs.Tree.{in_tree, next_new};
-ghost use Rattle.mill_model.specs.declared.order.TheConstants.{MAX_ORDERS};
 ghost use Rattle.refute_log.specs.Fits.{path_fits};
 ghost use Rattle.log_checker.specs.Groups.{nothing_seen, AreGroups};
 ghost use Rattle.log_checker.specs.ByRules.{mill_by, charge_by};

@@ -50,7 +50,7 @@ fn coming_colours(rules: &Rules, group: &Group, k: usize) -> [u16; 8]
     let mut coming = [NO_COLOUR; 8];
     let mut count = 0;
     for i in 0..colours.len() {
-        let comes = rules.comes(colours[i], k);
+        let comes = rules.comes(k, colours[i]);
         count = note_coming(&mut coming, count, colours[i], comes);
     }
     coming.sort_unstable();

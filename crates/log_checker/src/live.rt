@@ -1,6 +1,6 @@
 // Whether a later order may join a group, and what the groups that none may join are charged.
 
-ghost use Rattle.std.specs.Prelude.{◌≡◌, ◌≤◌, ◌*◌, ◌+◌, drop, length};
+ghost use Rattle.std.specs.Prelude.{◌≡◌, ◌≤◌, ◌*◌, ◌+◌, drop};
 ghost use Rattle.std.specs.List.{list_any};
 ghost use Rattle.mill_model.specs.LiveKey.{dead_loss};
 ghost use Rattle.mill_model.specs.declared.order.TheConstants.{MAX_ORDERS};
@@ -17,7 +17,7 @@ fn takes_of(rules: &Rules, group: &Group, k: usize, colour: u16) -> bool
     ensures { result ≡
         takes_of (mill_by rules.now) (drop k rules.now.ranked.items) group.now colour }
 {
-    match rules.lightest_of(colour, k) {
+    match rules.lightest_of(k, colour) {
         Some(order) => group.may_join(rules, order),
         None => false,
     }

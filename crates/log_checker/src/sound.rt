@@ -1,6 +1,6 @@
 // Whether one record holds up: it is sound, and names no path that isn't settled.
 
-ghost use Rattle.std.specs.Prelude.{◌≡◌, ◌<◌, ◌≤◌, ◌&&◌, IfOk, true, length};
+ghost use Rattle.std.specs.Prelude.{◌≡◌, ◌<◌, ◌&&◌, IfOk, true, length};
 ghost use Rattle.mill_model.specs.Log.{sound, recorded};
 ghost use Rattle.mill_model.specs.declared.closing.Closing.TheVariants.{Leaf};
 ghost use Rattle.refute_log.specs.Rising.{rises};
@@ -11,7 +11,7 @@ ghost use Rattle.log_checker.specs.Verdict.{holds_up};
 
 use crate::dominated::dominated_holds_up;
 use crate::grouped_path::GroupedPath;
-use crate::price::priced_is_sound;
+use crate::priced::priced_is_sound;
 use least_slacks::SlackTables;
 use mill_model::{Closing, Entry, OutOfMemory};
 use std::alloc::Global;

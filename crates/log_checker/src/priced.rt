@@ -1,6 +1,6 @@
 // Records by prices: the least slack of each group of a path, the sum of them and of the prices.
 
-ghost use Rattle.std.specs.Prelude.{◌≡◌, ◌<◌, ◌≤◌, ◌+◌, ◌*◌, ℕ, IfOk, All, length, map, true};
+ghost use Rattle.std.specs.Prelude.{◌≡◌, ◌<◌, ◌≤◌, ◌+◌, ◌*◌, ℕ, IfOk, All, length, map};
 ghost use Rattle.std.specs.Prelude.{slice_index_or, slice_set, ◌-ℤ◌, ◌*ℤ◌, pos, int_lt};
 ghost use Rattle.list_laws.specs.Sets.{int_sum};
 ghost use Rattle.mill_model.specs.Limits.{IsPrice};

@@ -10,7 +10,7 @@ use Rattle.log_checker.specs.PathGroups.{later}
 use Rattle.log_checker.specs.Slacks.{slack_of, no_live}
 use Rattle.log_checker.specs.declared.keys.LiveGroup.{LiveGroup}
 use Rattle.log_checker.proofs.SlacksOfGroups.{charged-first, slack-step, slack-last, sorted-lives}
-use Rattle.log_checker.proofs.price.slacks_of.Goals as goal
+use Rattle.log_checker.proofs.priced.slacks_of.Goals as goal
 
 pub loop-i-init : goal.loop-i-init
 loop-i-init c =

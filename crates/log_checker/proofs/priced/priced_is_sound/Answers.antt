@@ -19,7 +19,7 @@ use Rattle.log_checker.specs.Keys.{key_in}
 use Rattle.log_checker.specs.PathGroups.{later}
 use Rattle.log_checker.specs.Slacks.{slack_of}
 use Rattle.log_checker.proofs.SlacksOfGroups.{keys-legal, live-slacks, slacks-sum}
-use Rattle.log_checker.proofs.price.priced_is_sound.Goals as goal
+use Rattle.log_checker.proofs.priced.priced_is_sound.Goals as goal
 
 -- the limits are those of the rules
 limits-mill : (a b : ℕ) (limits : SlabLimits) → limits.largest ≡ a → limits.most ≡ b →

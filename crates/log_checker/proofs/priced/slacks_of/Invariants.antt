@@ -3,7 +3,7 @@ use Rattle.list_laws.proofs.Among.{Among}
 use Rattle.set_minima.specs.Cells.{IsSmall}
 use Rattle.log_checker.specs.Keys.{group_in}
 use Rattle.log_checker.specs.Slacks.{slack_of}
-use Rattle.log_checker.proofs.price.slacks_of.Given as goal
+use Rattle.log_checker.proofs.priced.slacks_of.Given as goal
 
 abbrev pub invariant-loop-i : goal.invariant-loop-i
 invariant-loop-i l = record {

@@ -4,7 +4,7 @@ use Rattle.std.proofs.lemmas.Int.{ints}
 use Rattle.std.proofs.lemmas.List.{drop_more}
 use Rattle.list_laws.specs.Sets.{int_sum}
 use Rattle.set_minima.proofs.CellNumbers.{fits-64}
-use Rattle.log_checker.proofs.price.sum_of.Goals as goal
+use Rattle.log_checker.proofs.priced.sum_of.Goals as goal
 
 pub loop-number-preserved : goal.loop-number-preserved
 loop-number-preserved c =

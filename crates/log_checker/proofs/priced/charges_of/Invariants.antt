@@ -2,7 +2,7 @@ use Rattle.std.proofs.Common.{◌≡◌, ◌*◌, ◌<◌, ℕ, pos, length, All
 use Rattle.set_minima.specs.Cells.{IsSmall}
 use Rattle.log_checker.specs.ByRules.{charge_by}
 use Rattle.log_checker.specs.PathGroups.{group_of}
-use Rattle.log_checker.proofs.price.charges_of.Given as goal
+use Rattle.log_checker.proofs.priced.charges_of.Given as goal
 
 abbrev pub invariant-loop-g : goal.invariant-loop-g
 invariant-loop-g l = record {

@@ -9,7 +9,7 @@ use Rattle.std.proofs.lemmas.List.Elements.{All-push}
 use Rattle.log_checker.specs.ByRules.{charge_by}
 use Rattle.log_checker.specs.PathGroups.{group_of}
 use Rattle.set_minima.specs.Cells.{IsSmall}
-use Rattle.log_checker.proofs.price.charges_of.Goals as goal
+use Rattle.log_checker.proofs.priced.charges_of.Goals as goal
 
 pub loop-g-preserved : goal.loop-g-preserved
 loop-g-preserved c =

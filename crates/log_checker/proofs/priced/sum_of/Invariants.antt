@@ -1,7 +1,7 @@
 use Rattle.std.proofs.Common.{◌≡◌, ◌*◌, ◌+ℤ◌, drop}
 use Rattle.list_laws.specs.Sets.{int_sum}
 use Rattle.set_minima.specs.Cells.{IsSmall}
-use Rattle.log_checker.proofs.price.sum_of.Given as goal
+use Rattle.log_checker.proofs.priced.sum_of.Given as goal
 
 abbrev pub invariant-loop-number : goal.invariant-loop-number
 invariant-loop-number l = record {

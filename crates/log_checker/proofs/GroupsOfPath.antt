@@ -22,7 +22,6 @@ use Rattle.std.proofs.Math.Seq.{take-append_seam}
 use Rattle.list_laws.proofs.Tests.{either, and-left, and-right}
 use Rattle.refute_log.specs.Fits.{path_fits}
 use Rattle.list_laws.proofs.Different.{holds-append, different-push, holds-below}
-use Rattle.mill_model.specs.declared.order.TheConstants.{MAX_ORDERS}
 use Rattle.log_checker.specs.Groups.{Seen, joined, may_be, IsSeen, nothing_seen, AreGroups}
 
 colours-push : (orders : List Order) (o : Order) →
@@ -197,8 +196,8 @@ below-or-not g n = grind arith
 
 -- all groups of a path, and the numbers that none has
 pub groups-all : (groups : List Seen) (path : List ℕ) (ranked : List Order) (i : ℕ) →
-    GroupsTo groups path ranked i → length path ≤ i → i ≤ MAX_ORDERS → AreGroups groups path ranked
-groups-all groups path ranked i it l b = record {
+    GroupsTo groups path ranked i → length path ≤ i → AreGroups groups path ranked
+groups-all groups path ranked i it l = record {
   count = it.count;
   seen = λ g. elim (below-or-not g (next_new path)) [
     | inl h ↦ subst (λ p. IsSeen (get_or groups g nothing_seen) (slab g p ranked))
@@ -207,12 +206,6 @@ groups-all groups path ranked i it l b = record {
       get_or_past groups g nothing_seen (rw it.count h),
       slab-new g path ranked h,
     ) seen-none
-  ];
-  light = λ g. elim (below-or-not g (next_new path)) [
-    | inl h ↦ (let a : (get_or groups g nothing_seen).load ≤ i * 1000000 =
-        it.light g h in omega arith)
-    | inr h ↦ (let z : 0 ≤ MAX_ORDERS * 1000000 = omega arith in
-        rw (get_or_past groups g nothing_seen (rw it.count h)) z)
   ];
 }
 

@@ -86,10 +86,9 @@ impl Group {
 
     /// Whether the group stays legal with one more order.
     pub(crate) fn may_join(&self, rules: &Rules, order: Order) -> bool
-        requires { self.now.load + order.weight < 2 ^ 64 }
         ensures { result ≡ may_be (mill_by rules.now) (joined self.now order) }
     {
-        self.load + order.weight as u64 <= rules.largest as u64
+        self.load as u128 + order.weight as u128 <= rules.largest as u128
             && count_with(self.colours.as_slice(), order.colour) <= rules.most_colours as usize
     }
 }

@@ -1,9 +1,8 @@
 // Whether a later order may join a group, and what the groups that none may join are charged.
 
-ghost use Rattle.std.specs.Prelude.{◌≡◌, ◌≤◌, ◌*◌, ◌+◌, drop};
+ghost use Rattle.std.specs.Prelude.{◌≡◌, ◌*◌, ◌+◌, drop};
 ghost use Rattle.std.specs.List.{list_any};
 ghost use Rattle.mill_model.specs.LiveKey.{dead_loss};
-ghost use Rattle.mill_model.specs.declared.order.TheConstants.{MAX_ORDERS};
 ghost use Rattle.log_checker.specs.ByRules.{mill_by, charge_by};
 ghost use Rattle.log_checker.specs.Live.{lives, takes_of};
 
@@ -13,7 +12,6 @@ use crate::rules::Rules;
 
 /// Whether an order of a colour, from a rank on, may join a group.
 fn takes_of(rules: &Rules, group: &Group, k: usize, colour: u16) -> bool
-    requires light { group.now.load ≤ MAX_ORDERS * 1000000 }
     ensures { result ≡
         takes_of (mill_by rules.now) (drop k rules.now.ranked.items) group.now colour }
 {
@@ -25,7 +23,6 @@ fn takes_of(rules: &Rules, group: &Group, k: usize, colour: u16) -> bool
 
 /// Whether an order of an own colour, from a rank on, may join a group.
 fn takes_own(rules: &Rules, group: &Group, k: usize) -> bool
-    requires light { group.now.load ≤ MAX_ORDERS * 1000000 }
     ensures { result ≡ list_any (takes_of (mill_by rules.now) (drop k rules.now.ranked.items)
         group.now) group.now.colours }
 {
@@ -39,7 +36,6 @@ fn takes_own(rules: &Rules, group: &Group, k: usize) -> bool
 
 /// Whether some order from a rank on may join a group.
 pub(crate) fn is_live(rules: &Rules, group: &Group, k: usize) -> bool
-    requires light { group.now.load ≤ MAX_ORDERS * 1000000 }
     ensures { result ≡ lives (mill_by rules.now) (drop k rules.now.ranked.items) group.now }
 {
     // No other order may join a group that has as many colours as may be.

@@ -1,11 +1,10 @@
 // Whether a path may go on with a group, and whether it is in the tree.
 
-ghost use Rattle.std.specs.Prelude.{◌≡◌, ◌<◌, ◌≤◌, ◌^◌, ◌*◌, ◌+◌, ◌&&◌, ◌||◌, IfOk, length, true};
+ghost use Rattle.std.specs.Prelude.{◌≡◌, ◌<◌, ◌≤◌, ◌+◌, ◌&&◌, ◌||◌, IfOk, length, true};
 ghost use Rattle.std.specs.Prelude.{replicate, slice_index, slice_index_or, take};
 ghost use Rattle.mill_model.specs.Plan.{slab};
 ghost use Rattle.mill_model.specs.Rank.{starts_class_in, same_order};
 ghost use Rattle.mill_model.specs.Tree.{next_new, last_number, may_go_on, in_tree};
-ghost use Rattle.mill_model.specs.declared.order.TheConstants.{MAX_ORDERS};
 ghost use Rattle.log_checker.specs.ByRules.{mill_by};
 ghost use Rattle.log_checker.specs.Groups.{joined, may_be, nothing_seen, IsSeen, AreGroups};
 
@@ -41,7 +40,6 @@ fn last_number(path: &[u16]) -> u16
 
 /// Whether a group, or the next new one, stays legal with one more order.
 fn may_join(rules: &Rules, groups: &[Group], g: usize, order: Order) -> bool
-    requires { (slice_index_or groups.now g nothing_seen).load + order.weight < 2 ^ 64 }
     ensures { result ≡
         may_be (mill_by rules.now) (joined (slice_index_or groups.now g nothing_seen) order) }
 {
@@ -56,7 +54,6 @@ fn may_join(rules: &Rules, groups: &[Group], g: usize, order: Order) -> bool
 pub(crate) fn may_go_on(rules: &Rules, groups: &[Group], path: &[u16], g: u16) -> bool
     requires seen { IsSeen (slice_index_or groups.now g nothing_seen)
         (slab g path.now rules.now.ranked.items) }
-    requires light { (slice_index_or groups.now g nothing_seen).load ≤ MAX_ORDERS * 1000000 }
     requires within { length path.now < length rules.now.ranked.items }
     requires near { g ≤ next_new path.now }
     ensures { result ≡ may_go_on (mill_by rules.now) rules.now.ranked.items path.now g }
@@ -72,8 +69,6 @@ fn goes_on_at(rules: &Rules, groups: &[Group], path: &[u16], k: usize, count: us
     requires within { length path.now ≤ length rules.now.ranked.items }
     requires seen { IsSeen (slice_index_or groups.now (slice_index path.now k) nothing_seen)
         (slab (slice_index path.now k) (take k path.now) rules.now.ranked.items) }
-    requires light { (slice_index_or groups.now (slice_index path.now k) nothing_seen).load
-        ≤ MAX_ORDERS * 1000000 }
     requires count { count ≡ next_new (take k path.now) }
     ensures { result ≡ may_go_on (mill_by rules.now) rules.now.ranked.items (take k path.now)
         (slice_index path.now k) }

@@ -30,8 +30,4 @@ loop-i-preserved c =
 pub returns : goal.returns
 returns c =
     groups-all c.loop-i.groups c.args.path.now c.args.rules.now.ranked.items c.loop-i.i
-    c.loop-i.invariant (omega arith) (omega (
-      arith,
-      c.args.rules.now.setting.few,
-      c.requires.within,
-    ))
+    c.loop-i.invariant (omega arith)

@@ -40,8 +40,4 @@ loop-k-preserved c =
 pub returns-clause-groups : goal.returns-clause-groups
 returns-clause-groups c e =
     groups-all c.loop-k.groups c.args.path.now c.args.rules.now.ranked.items c.loop-k.k
-    c.loop-k.invariant.groups (omega arith) (omega (
-      arith,
-      c.args.rules.now.setting.few,
-      c.requires.within,
-    ))
+    c.loop-k.invariant.groups (omega arith)

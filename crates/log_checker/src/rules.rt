@@ -57,7 +57,6 @@ impl Rules {
     pub(crate) fn lightest(&self, rank: usize) -> Option<Order>
         ensures some { IfSome result
             (IsLightest (λ order. true) (drop rank self.now.ranked.items)) }
-        ensures light { IfSome result (λ order. order.weight ≤ 1000000) }
         ensures none { IfNone result
             (AreNone (λ order. true) (drop rank self.now.ranked.items)) }
     {
@@ -71,7 +70,6 @@ impl Rules {
     pub(crate) fn lightest_of(&self, rank: usize, colour: u16) -> Option<Order>
         ensures some { IfSome result
             (IsLightest (λ order. eqb colour order.colour) (drop rank self.now.ranked.items)) }
-        ensures light { IfSome result (λ order. order.weight ≤ 1000000) }
         ensures none { IfNone result
             (AreNone (λ order. eqb colour order.colour) (drop rank self.now.ranked.items)) }
     {

@@ -57,21 +57,7 @@ fn coming_colours(rules: &Rules, group: &Group, k: usize) -> [u16; 8]
     coming
 }
 
-/// A group as the orders from rank `k` on see it.
-fn key_of(rules: &Rules, group: &Group, k: usize) -> Key
-    requires few { length group.now.colours ≤ 8 }
-    requires once { length group.now.colours ≡ different group.now.colours }
-    ensures { IsKey (drop k rules.now.ranked.items) group.now result }
-{
-    let coming = coming_colours(rules, group, k);
-    Key {
-        coming,
-        colours: group.colours().len(),
-        load: group.load(),
-    }
-}
-
-/// The key of a group, where it is live.
+/// A group as the later orders see it, where it is live.
 fn live_group(path: &GroupedPath, g: usize) -> Option<LiveGroup>
     requires here { g < length path.now.groups.items }
     ensures some { IfSome result (λ live. (live.group ≡ g)
@@ -85,7 +71,12 @@ fn live_group(path: &GroupedPath, g: usize) -> Option<LiveGroup>
     if !is_live(path.rules, group, k) {
         return None;
     }
-    let key = key_of(path.rules, group, k);
+    let coming = coming_colours(path.rules, group, k);
+    let key = Key {
+        coming,
+        colours: group.colours().len(),
+        load: group.load(),
+    };
     Some(LiveGroup { key, group: g })
 }
 

@@ -1,8 +1,13 @@
--- The coming colours of a key: which they are, and that nothing else is known of them.
+-- The coming colours of a key: which they are, and that nothing else is known of them. A key holds
+-- eight rising numbers, with 65535 behind the colours, which no order has. How often each lesser
+-- number stands among them says which colours come; and rising numbers are known by how often each
+-- stands there, so that two keys with the same colours have the same eight numbers.
 use Rattle.std.proofs.Common.{ℕ, zero, suc, ◌+◌, ◌-◌, ◌<◌, ◌≤◌, ◌≡◌, ◌⊎◌, Bool, true, false, cond}
 use Rattle.std.proofs.Common.{◌&&◌, List, [], ◌∷◌, ◌++◌, filter, length, take, get_or, set, eqb}
 use Rattle.std.proofs.Common.{ltb, eqb-true, eq-eqb, ne_eqb, le-ltb, ltb-false, refl, sym, ap, ap₂}
 use Rattle.std.proofs.Common.{◌∙◌, subst, arith, inl, inr, replicate, append-nil, All}
+use Rattle.std.proofs.Common.{length-append}
+use Rattle.std.proofs.Math.Seq.{take-suc}
 use Rattle.std.proofs.lemmas.Bool.{cases_lt}
 use Rattle.std.proofs.lemmas.List.{get_or_default}
 use Rattle.std.proofs.lemmas.List.Elements.{filter-append, All-append, All-filter}
@@ -39,13 +44,7 @@ note-more test colours coming new i count next c comes h e t n few is there not_
     grown : take (i + 1) colours ≡ take i colours ++ c ∷ []
     grown =
         let s : i + 1 ≡ suc i = omega arith in
-        rw (s, e) (more i colours h)
-      where
-        more : (i : ℕ) (xs : List ℕ) → i < length xs →
-            take (suc i) xs ≡ take i xs ++ get_or xs i 0 ∷ []
-        more i [] h = absurd (omega arith)
-        more zero (x ∷ xs) h = refl
-        more (suc i) (x ∷ xs) h = ap (λ l. x ∷ l) (more i xs (omega arith))
+        rw (s, e) (take-suc colours i 0 h)
 
     passed : filter test (take (i + 1) colours) ≡ first ++ cond (test c) (c ∷ []) []
     passed = ap (filter test) grown ∙ filter-append test (take i colours) (c ∷ [])
@@ -57,16 +56,12 @@ note-more test colours coming new i count next c comes h e t n few is there not_
         let p : filter test (take (i + 1) colours) ≡ first ++ c ∷ [] =
         passed ∙ ap (λ b. first ++ cond b (c ∷ []) []) (sym t ∙ q) in
         let m : 8 - count ≡ suc (8 - next) = omega (arith, w.1) in
-        let l : length (first ++ c ∷ []) ≡ length first + 1 = long first in (
+        let l : length (first ++ c ∷ []) ≡ length first + 1 = length-append first (c ∷ []) in (
           omega (arith, w.1, ap length p),
           w.0 ∙ ap (λ xs. set xs count c) (is ∙ ap (λ k. first ++ replicate k 65535) m)
               ∙ ap (λ k. set (first ++ replicate (suc (8 - next)) 65535) k c) n
               ∙ note-step first (8 - next) c ∙ ap (λ l. l ++ replicate (8 - next) 65535) (sym p),
         )
-      where
-        long : (xs : List ℕ) → length (xs ++ c ∷ []) ≡ length xs + 1
-        long [] = refl
-        long (x ∷ xs) = let ih : length (xs ++ c ∷ []) ≡ length xs + 1 = long xs in omega arith
     go false q =
         let w = not_there q in
         let p : filter test (take (i + 1) colours) ≡ first =

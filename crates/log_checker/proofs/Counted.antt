@@ -1,4 +1,6 @@
--- What is wrong with a log, by how often a path is recorded and how often it is to be.
+-- What is wrong with a log, by how often a path is recorded and how often it is to be. A pass keeps
+-- such counts, since a complete log is an equation of them at each path; here they become the tests
+-- of a verdict, which ask only whether a path is there.
 use Rattle.std.proofs.Common.{ℕ, zero, suc, ◌+◌, ◌<◌, ◌≡◌, Bool, true, false, not, ◌&&◌, ◌||◌, List}
 use Rattle.std.proofs.Common.{[], ◌∷◌, refl, arith, inl, inr}
 use Rattle.std.specs.List.{list_any}

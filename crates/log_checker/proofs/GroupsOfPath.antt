@@ -1,9 +1,14 @@
--- Groups of a path, one order at a time.
+-- Groups of a path, one order at a time. What is seen of a group (its load, and each colour once)
+-- is all that the rules ask: with one order more it is seen as `joined` says, whatever its orders
+-- are. So the groups of the first i numbers of a path become those of the first i + 1 by one write,
+-- and at the end they are those of the path; of a number that the path doesn't have nothing is
+-- seen.
 use Rattle.std.proofs.Common.{ℕ, zero, suc, ◌+◌, ◌<◌, ◌≤◌, ◌≡◌, ◌⊎◌, Bool, true, false, cond, ◌&&◌}
 use Rattle.std.proofs.Common.{◌||◌, List, [], ◌∷◌, ◌++◌, map, length, take, get_or, eqb, leb, refl}
 use Rattle.std.proofs.Common.{sym, ap, ap₂, ◌∙◌, subst, arith, inl, inr, length-append, eq-eqb}
-use Rattle.std.proofs.Common.{ne_eqb, eqb-true, set, get_or-set_same, get_or-set_other}
-use Rattle.std.proofs.Common.{◌*◌, ◌≢◌}
+use Rattle.std.proofs.Common.{eqb-true, set, get_or-set_same, get_or-set_other}
+use Rattle.std.proofs.Common.{◌*◌, ◌≢◌, drop, ltb, leb-true}
+use Rattle.std.specs.List.{list_all}
 use Rattle.std.proofs.lemmas.List.{take_all, length-set, append-nil, get_or_past, map-append}
 use Rattle.list_laws.specs.Sets.{holds, different}
 use Rattle.mill_model.specs.Slab.{Mill, load, colours, legal}
@@ -11,10 +16,12 @@ use Rattle.mill_model.specs.Plan.{slab}
 use Rattle.mill_model.specs.Tree.{next_new}
 use Rattle.mill_model.specs.LiveKey.{has_colour}
 use Rattle.mill_model.specs.declared.order.Order.{Order}
-use Rattle.mill_model.proofs.Slabs.{slab-unused, load-append}
-use Rattle.list_laws.proofs.Tests.{either}
-use Rattle.list_laws.proofs.Different.{holds-append, different-push}
-use Rattle.mill_model.specs.declared.order.TheConstants.{MAX_ORDERS}
+use Rattle.mill_model.proofs.Slabs.{load-append}
+use Rattle.mill_laws.proofs.Groups.{next_new-le, slab-new}
+use Rattle.std.proofs.Math.Seq.{take-append_seam}
+use Rattle.list_laws.proofs.Tests.{either, and-left, and-right}
+use Rattle.refute_log.specs.Fits.{path_fits}
+use Rattle.list_laws.proofs.Different.{holds-append, different-push, holds-below}
 use Rattle.log_checker.specs.Groups.{Seen, joined, may_be, IsSeen, nothing_seen, AreGroups}
 
 colours-push : (orders : List Order) (o : Order) →
@@ -103,6 +110,25 @@ number-below zero (g ∷ path) h = omega arith
 number-below (suc i) (g ∷ path) h =
     let ih : get_or path i 0 < next_new path = number-below i path (omega arith) in omega arith
 
+-- a path that fits so many orders has no more numbers than that, and names no more groups
+pub path-within : (n : ℕ) (path : List ℕ) → path_fits n path ≡ true → length path ≤ n
+path-within n path h = leb-true (length path) n (and-left _ (list_all (λ g. ltb g n) path) h)
+
+pub numbers-few : (n : ℕ) (path : List ℕ) → path_fits n path ≡ true → next_new path ≤ n
+numbers-few n path h =
+    next_new-le n path (λ g k. holds-below n g path
+    (and-right (leb (length path) n) (list_all (λ g. ltb g n) path) h) k)
+
+-- groups that were filled in place are as many as there were empty ones
+pub filled : (new old : List Seen) (path : List ℕ) (n : ℕ) (ranked : List Order) →
+    AreGroups new path ranked → n ≡ next_new path →
+    AreGroups (take n (new ++ drop (length new) old)) path ranked
+filled new old path n ranked it e =
+    let whole : take n (new ++ drop (length new) old) ≡ new =
+    ap (λ k. take k (new ++ drop (length new) old)) (e ∙ sym it.count)
+    ∙ take-append_seam new (drop (length new) old) in
+    subst (λ gs. AreGroups gs path ranked) (sym whole) it
+
 -- the groups of the first numbers of a path
 pub record GroupsTo (groups : List Seen) (path : List ℕ) (ranked : List Order) (i : ℕ) : Type 0
   where
@@ -165,32 +191,21 @@ groups-more groups path ranked i d h k w it = record {
         (let b : (get_or groups (get_or path i 0) nothing_seen).load ≤ i * 1000000 =
         it.light (get_or path i 0) (number-below i path h) in omega arith)
 
-pub unused : (g : ℕ) (path : List ℕ) → next_new path ≤ g → holds g path ≡ false
-unused g [] h = refl
-unused g (x ∷ path) h =
-    let e : eqb g x ≡ false = ne_eqb g x (omega arith) in rw e (unused g path (omega arith))
-
 below-or-not : (g n : ℕ) → (g < n) ⊎ (n ≤ g)
 below-or-not g n = grind arith
 
 -- all groups of a path, and the numbers that none has
 pub groups-all : (groups : List Seen) (path : List ℕ) (ranked : List Order) (i : ℕ) →
-    GroupsTo groups path ranked i → length path ≤ i → i ≤ MAX_ORDERS → AreGroups groups path ranked
-groups-all groups path ranked i it l b = record {
+    GroupsTo groups path ranked i → length path ≤ i → AreGroups groups path ranked
+groups-all groups path ranked i it l = record {
   count = it.count;
   seen = λ g. elim (below-or-not g (next_new path)) [
     | inl h ↦ subst (λ p. IsSeen (get_or groups g nothing_seen) (slab g p ranked))
         (take_all i path l) (it.seen g h)
     | inr h ↦ rw (
       get_or_past groups g nothing_seen (rw it.count h),
-      slab-unused g path ranked (unused g path h),
+      slab-new g path ranked h,
     ) seen-none
-  ];
-  light = λ g. elim (below-or-not g (next_new path)) [
-    | inl h ↦ (let a : (get_or groups g nothing_seen).load ≤ i * 1000000 =
-        it.light g h in omega arith)
-    | inr h ↦ (let z : 0 ≤ MAX_ORDERS * 1000000 = omega arith in
-        rw (get_or_past groups g nothing_seen (rw it.count h)) z)
   ];
 }
 

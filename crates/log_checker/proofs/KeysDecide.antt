@@ -1,5 +1,7 @@
 -- Keys: two groups have one exactly where the later orders see them alike, and two paths have the
--- same live groups exactly where their keys in order are the same.
+-- same live groups exactly where their keys in order are the same. For the second: a sort leaves
+-- each key as often as it was, keys stand in a total order in which only equal ones tie, and lists
+-- in one order that have each thing as often are one list.
 use Rattle.std.proofs.Common.{ℕ, zero, suc, ◌+◌, ◌<◌, ◌≡◌, ◌≢◌, ◌||◌, drop, Bool, true, false, cond}
 use Rattle.std.proofs.Common.{not, ◌&&◌, List, [], ◌∷◌, ◌++◌, map, length, get_or, eqb, eqb-true}
 use Rattle.std.proofs.Common.{eq-eqb, refl, sym, ap, ap₂, ◌∙◌, subst, arith, inl, inr, All}

@@ -1,4 +1,5 @@
--- The last ranks of the colours, one order more at a time.
+-- The last ranks of the colours, one order more at a time. Whether a colour comes from a rank k on
+-- is then whether k is below one number, which is one more than the last rank of that colour.
 use Rattle.std.proofs.Common.{ℕ, zero, suc, ◌<◌, ◌≤◌, ◌≡◌, ◌≢◌, Bool, true, false, ◌||◌, List, []}
 use Rattle.std.proofs.Common.{◌∷◌, ◌++◌, length, take, drop, get_or, set, eqb, ltb, eqb-true}
 use Rattle.std.proofs.Common.{eq-eqb, lt-ltb, le-ltb, refl, ap, ◌∙◌, arith, inl, inr}

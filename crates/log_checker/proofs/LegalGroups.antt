@@ -1,8 +1,8 @@
 -- What is seen of the groups of a path: each colour once, and a live group is legal.
-use Rattle.std.proofs.Common.{ℕ, suc, ◌+◌, ◌≤◌, ◌≡◌, Bool, true, false, List, [], ◌∷◌, ◌++◌}
-use Rattle.std.proofs.Common.{length, map, leb, leb-true, refl, sym, ◌∙◌, arith, inl, inr, cond}
-use Rattle.std.proofs.Common.{length-append, ℤ, ◌+ℤ◌}
-use Rattle.list_laws.specs.Sets.{holds, different, int_total}
+use Rattle.std.proofs.Common.{ℕ, ◌+◌, ◌≤◌, ◌≡◌, Bool, true, false, List, [], ◌∷◌, ◌++◌}
+use Rattle.std.proofs.Common.{length, map, leb, leb-true, sym, ◌∙◌, arith, inl, inr, cond}
+use Rattle.std.proofs.Common.{length-append}
+use Rattle.list_laws.specs.Sets.{holds, different}
 use Rattle.mill_model.specs.Slab.{Mill, colours}
 use Rattle.mill_model.specs.declared.order.Order.{Order}
 use Rattle.list_laws.proofs.Tests.{and-left, and-right, or-cases}
@@ -43,10 +43,3 @@ live-fits mill (o ∷ rest) seen h =
           (omega arith, omega arith))
       | inr a ↦ live-fits mill rest seen a
     ]
-
--- one group more in a sum
-pub total-more : (g : ℕ) (f : ℕ → ℤ) (s z : ℤ) → s ≡ int_total g f → z ≡ f g →
-    s +ℤ z ≡ int_total (g + 1) f
-total-more g f s z a b =
-    let e : g + 1 ≡ suc g = omega arith in
-    rw (e, a, b) refl

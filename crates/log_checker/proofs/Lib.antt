@@ -2,7 +2,6 @@ pub mod GroupsOfPath
 pub mod KeysDecide
 pub mod LastRanks
 pub mod ComingColours
-pub mod SmallNumbers
 pub mod OrdersInRank
 pub mod PathsGoOn
 pub mod LossOfGroups

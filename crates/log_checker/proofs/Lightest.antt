@@ -1,4 +1,8 @@
--- The lightest orders from a rank on, and whether a group may take an order.
+-- The lightest orders from a rank on, and whether a group may take an order. Weights fall in rank,
+-- so the last order of a colour is its lightest. A group with as many colours as may be takes only
+-- orders of its own colours, and of each the lightest or none; a group with fewer takes the
+-- lightest order of all or none. So a few tests say whether a group is live, however many orders
+-- come.
 use Rattle.std.proofs.Common.{ℕ, zero, suc, ◌+◌, ◌-◌, ◌<◌, ◌≤◌, ◌≡◌, Bool, true, false, cond, ◌&&◌}
 use Rattle.std.proofs.Common.{◌||◌, List, [], ◌∷◌, ◌++◌, length, drop, get_or, eqb, ltb, leb, refl}
 use Rattle.std.proofs.Common.{sym, ap, ◌∙◌, subst, arith, inl, inr, eqb-true, eq-eqb, ltb-true}

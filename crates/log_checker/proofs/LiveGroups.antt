@@ -1,8 +1,11 @@
--- Live keys from what is seen of groups.
-use Rattle.std.proofs.Common.{ℕ, suc, ◌+◌, ◌≡◌, Bool, true, false, cond, ◌&&◌, ◌||◌, List, [], ◌∷◌}
+-- Live keys from what is seen of groups. Whether an order may join, and what the later orders see
+-- of a group, depends on its load, its number of colours and which colours it has. So live groups,
+-- their keys and the dead loss are the same by what is seen as by the orders themselves.
+use Rattle.std.proofs.Common.{ℕ, suc, ◌+◌, ◌≡◌, Bool, true, cond, ◌&&◌, ◌||◌, List, [], ◌∷◌}
 use Rattle.std.proofs.Common.{◌++◌, map, filter, length, drop, get_or, eqb, eq-eqb, refl, sym, ap}
 use Rattle.std.proofs.Common.{ap₂, ◌∙◌, arith}
 use Rattle.std.specs.List.{list_all}
+use Rattle.std.proofs.lemmas.List.Folds.{list_all-append}
 use Rattle.std.proofs.lemmas.List.Elements.{filter-append}
 use Rattle.list_laws.specs.Sets.{below, times, same_times, total}
 use Rattle.mill_model.specs.Slab.{Mill, load}
@@ -78,20 +81,10 @@ module _ (mill : Mill) (ranked rest : List Order) where
       (slab m path ranked) second r os (it.seen m) b)) (each-is groups path ms first q ns second r
       os it a b)
 
-list_all-both : {X : Type 0} (p : X → Bool) (xs ys : List X) →
-    list_all p (xs ++ ys) ≡ (list_all p xs && list_all p ys)
-list_all-both p [] ys = refl
-list_all-both p (x ∷ xs) ys =
-    ap (λ b. p x && b) (list_all-both p xs ys) ∙ assoc (p x) (list_all p xs) (list_all p ys)
-  where
-    assoc : (a b c : Bool) → (a && (b && c)) ≡ ((a && b) && c)
-    assoc true b c = refl
-    assoc false b c = refl
-
 pub both-ways : {X : Type 0} (same : X → X → Bool) (xs ys : List X) →
     same_times same xs ys ≡ (list_all (λ x. eqb (times same x xs) (times same x ys)) xs
     && list_all (λ x. eqb (times same x xs) (times same x ys)) ys)
-both-ways same xs ys = list_all-both (λ x. eqb (times same x xs) (times same x ys)) xs ys
+both-ways same xs ys = list_all-append (λ x. eqb (times same x xs) (times same x ys)) xs ys
 
 -- the live groups of a path as the orders from a rank on see them
 abbrev keyed : Mill → List Order → ℕ → List ℕ → List LiveGroup

@@ -5,10 +5,9 @@ use Rattle.mill_model.specs.Slab.{load}
 use Rattle.mill_model.specs.Plan.{slab, loss}
 use Rattle.mill_model.specs.Tree.{next_new}
 use Rattle.mill_model.specs.declared.order.Order.{Order}
-use Rattle.mill_model.proofs.Slabs.{slab-unused}
+use Rattle.mill_laws.proofs.Groups.{slab-new}
 use Rattle.list_laws.proofs.Sums.{total-beyond, total-cong}
 use Rattle.log_checker.specs.Groups.{Seen, nothing_seen, AreGroups}
-use Rattle.log_checker.proofs.GroupsOfPath.{unused}
 
 pub loss-groups : (charge : ℕ → ℕ) (groups : List Seen) (path : List ℕ) (ranked : List Order) →
     charge 0 ≡ 0 → AreGroups groups path ranked → next_new path ≤ length ranked →
@@ -21,4 +20,4 @@ loss-groups charge groups path ranked z it l =
     charge (load (slab s path ranked))) (λ s k. ap charge (it.seen s).weighs) in
     a ∙ sym (total-beyond (length groups) (length ranked) (λ s.
     charge (load (slab s path ranked))) (rw it.count l) (λ s k.
-    rw (slab-unused s path ranked (unused s path (rw (← it.count) k))) z))
+    rw (slab-new s path ranked (rw (← it.count) k)) z))

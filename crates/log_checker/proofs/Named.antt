@@ -1,4 +1,7 @@
--- The record that a dominated one names.
+-- The record that a dominated one names. In a rising log a path has at most one record, and a
+-- search by halves finds it: what stands before the middle comes before, what stands behind it
+-- after. So the one record decides whether the path is settled; where nothing is left between the
+-- halves there is none.
 use Rattle.std.proofs.Common.{ℕ, zero, suc, ◌+◌, ◌<◌, ◌≤◌, ◌≡◌, ◌⊎◌, Bool, true, false, not, ◌||◌}
 use Rattle.std.proofs.Common.{List, [], ◌∷◌, length, get_or, refl, sym, ap, ◌∙◌, subst, arith, inl}
 use Rattle.std.proofs.Common.{inr}

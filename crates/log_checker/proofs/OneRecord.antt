@@ -1,16 +1,18 @@
--- One record of a pass.
+-- One record of a pass. The last waiting path is the first that is still to come. Where the record
+-- stands at it and holds up, what it leaves open takes its place, and the verdict from here on
+-- stays what it was; else the verdict is known. At the end of the log, what still waits is missing.
 use Rattle.std.proofs.Common.{ℕ, zero, suc, ◌+◌, ◌<◌, ◌≤◌, ◌≡◌, Bool, true, false, cond, List, []}
 use Rattle.std.proofs.Common.{◌∷◌, ◌++◌, length, drop, get_or, map, refl, sym, ap, ◌∙◌, subst}
-use Rattle.std.proofs.Common.{arith, ltb-true, filter, ltb, lt-ltb, ◌-◌}
+use Rattle.std.proofs.Common.{arith, filter, ltb, lt-ltb, ◌-◌}
 use Rattle.std.proofs.lemmas.List.{drop_more, reverse-append, append-nil, drop_all}
 use Rattle.std.specs.List.{list_all}
+use Rattle.std.proofs.lemmas.List.Folds.{list_all-append}
 use Rattle.list_laws.specs.Sets.{same_list, below}
 use Rattle.mill_model.specs.Tree.{next_new, may_go_on}
 use Rattle.mill_model.specs.Log.{Task, recorded, left_open}
 use Rattle.mill_model.specs.declared.closing.Entry.{Entry}
-use Rattle.list_laws.proofs.Tests.{and-left, and-right}
+use Rattle.list_laws.proofs.Tests.{and-left}
 use Rattle.refute_log.specs.Rising.{rises}
-use Rattle.refute_log.specs.Fits.{path_fits}
 use Rattle.log_checker.specs.Verdict.{holds_up, verdict_from, IsVerdict}
 use Rattle.log_checker.specs.Agenda.{wanted_path, to_come, is_within, opened, opened_from}
 use Rattle.log_checker.proofs.WaitingPaths.{opened-come}
@@ -38,17 +40,6 @@ pub rest-from : (log : List Entry) (i : ℕ) (e : Entry) → i < length log → 
     drop i log ≡ e ∷ drop (i + 1) log
 rest-from log i e h q = drop_more log i e h ∙ ap (λ x. x ∷ drop (i + 1) log) (sym q)
 
-pub numbers-few : (n : ℕ) (path : List ℕ) → path_fits n path ≡ true → next_new path ≤ n
-numbers-few n path h = go path (and-right _ (list_all (λ g. ltb g n) path) h)
-  where
-    go : (path : List ℕ) → list_all (λ g. ltb g n) path ≡ true → next_new path ≤ n
-    go [] h = omega arith
-    go (g ∷ path) h =
-        let a : g < n =
-        ltb-true g n (and-left (ltb g n) (list_all (λ g. ltb g n) path) h) in
-        let ih : next_new path ≤ n =
-        go path (and-right (ltb g n) (list_all (λ g. ltb g n) path) h) in omega arith
-
 -- what is to come, before and after the last waiting one is taken
 pub come-push : (log : List Entry) (old new : List Wanted) (w : Wanted) → old ≡ new
     ++ w ∷ [] → to_come log old ≡ wanted_path log w ∷ to_come log new
@@ -56,27 +47,13 @@ come-push log old new w e = rw (e, reverse-append) refl
 
 pub within-left : (n : ℕ) (xs ys : List Wanted) → list_all (is_within n) (xs ++ ys) ≡ true →
     list_all (is_within n) xs ≡ true
-within-left n [] ys h = refl
-within-left n (x ∷ xs) ys h =
-    rw (
-      and-left (is_within n x) (list_all (is_within n) (xs ++ ys)) h,
-      within-left n xs ys (and-right (is_within n x) (list_all (is_within n) (xs ++ ys)) h),
-    ) refl
-
-pub within-last : (n : ℕ) (xs : List Wanted) (w : Wanted) →
-    list_all (is_within n) (xs ++ w ∷ []) ≡ true → is_within n w ≡ true
-within-last n [] w h = and-left (is_within n w) true h
-within-last n (x ∷ xs) w h =
-    within-last n xs w (and-right (is_within n x) (list_all (is_within n) (xs ++ w ∷ [])) h)
+within-left n xs ys h =
+    and-left (list_all (is_within n) xs) (list_all (is_within n) ys)
+    (sym (list_all-append (is_within n) xs ys) ∙ h)
 
 pub within-both : (n : ℕ) (xs ys : List Wanted) → list_all (is_within n) xs ≡ true →
     list_all (is_within n) ys ≡ true → list_all (is_within n) (xs ++ ys) ≡ true
-within-both n [] ys a b = b
-within-both n (x ∷ xs) ys a b =
-    rw (
-      and-left (is_within n x) (list_all (is_within n) xs) a,
-      within-both n xs ys (and-right (is_within n x) (list_all (is_within n) xs) a) b,
-    ) refl
+within-both n xs ys a b = list_all-append (is_within n) xs ys ∙ rw (a, b) refl
 
 module _ (task : Task) (bound : ℕ) (log : List Entry) (path : List ℕ) (paths : List (List ℕ))
     (e : Entry) (rest : List Entry) where

@@ -1,4 +1,7 @@
--- Orders in rank, by two stable sorts.
+-- Orders in rank, by two stable sorts: by colour, and then by weight, which leaves orders of one
+-- weight as they were. No order then stands before one that precedes it, and the orders of a file
+-- make only one such list. (The rank of mill_laws has the places too, which the checker doesn't
+-- keep.)
 use Rattle.std.proofs.Common.{ℕ, suc, ◌+◌, ◌-◌, ◌<◌, ◌≤◌, ◌≡◌, true, false, cond, subst, List, []}
 use Rattle.std.proofs.Common.{◌∷◌, map, length, get_or, refl, sym, ap, ap₂, ◌∙◌, arith, inl, inr}
 use Rattle.std.proofs.lemmas.Bool.Decides.{nat_tests}
@@ -12,7 +15,7 @@ use Rattle.mill_laws.specs.RankLaws.{Rising}
 use Rattle.mill_laws.proofs.Ranking.{rank-rising}
 use Rattle.mill_laws.proofs.Settle.{same_order-eq}
 use Rattle.mill_model.specs.declared.order.Order.{Order}
-use Rattle.list_laws.proofs.Among.{Among, Among-unmap, each-at}
+use Rattle.list_laws.proofs.Among.{Among-unmap, each-at}
 use Rattle.list_laws.proofs.Tests.{either}
 use Rattle.list_laws.proofs.InOrder.{InOrder, ordered-same, times-moved}
 

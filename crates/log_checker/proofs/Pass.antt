@@ -1,9 +1,13 @@
--- One pass over a rising log, with the paths that are still to come.
+-- One pass over a rising log, with the paths that are still to come. `IsAt` says where a pass
+-- stands: what the records so far want is what they record, and what is to come, each path as
+-- often; all of them hold up; and they come before all that is to come, whose paths part. So at a
+-- record that stands at another path, or doesn't hold up, all before that path is right, and that
+-- path is wrong. Where both lists end, the equation of counts is that of a complete log.
 use Rattle.std.proofs.Common.{ℕ, suc, ◌+◌, ◌<◌, ◌≡◌, ◌⊎◌, Bool, true, false, not, cond, ◌&&◌, ◌||◌}
 use Rattle.std.proofs.Common.{List, [], ◌∷◌, ◌++◌, refl, sym, ap, ◌∙◌, subst, arith, inl, inr}
 use Rattle.std.proofs.Common.{append_assoc}
 use Rattle.std.specs.List.{list_all, AllByRecursion}
-use Rattle.list_laws.specs.Sets.{same_list, times, below}
+use Rattle.list_laws.specs.Sets.{same_list, times}
 use Rattle.mill_model.specs.Tree.{next_new, may_go_on}
 use Rattle.mill_model.specs.Log.{Task, sound, recorded, left_open, split_children, names_settled}
 use Rattle.mill_model.proofs.Records.{recorded-append, split-append}

@@ -1,4 +1,6 @@
--- Classes and last numbers by place.
+-- Whether a path goes on, by places: where a class starts, what the last number is, and whether the
+-- group of a number may take the next order. A path is in the tree where each of its fronts goes
+-- on.
 use Rattle.std.proofs.Common.{lt-ltb, ltb, take, drop, max, sym, ap, ◌∙◌, ℕ, zero, suc, ◌+◌, ◌-◌}
 use Rattle.std.proofs.Common.{◌<◌, ◌≤◌, ◌≡◌}
 use Rattle.std.proofs.Common.{true, not, List, [], ◌∷◌, ◌++◌, length, get_or, refl, arith}
@@ -7,6 +9,7 @@ use Rattle.mill_model.specs.Slab.{Mill, legal}
 use Rattle.mill_model.specs.Plan.{slab}
 use Rattle.log_checker.specs.Groups.{Seen, joined, may_be, nothing_seen, IsSeen}
 use Rattle.log_checker.proofs.GroupsOfPath.{slab-next, seen-push, may_be-legal}
+use Rattle.std.proofs.Math.Seq.{take-suc}
 use Rattle.std.proofs.lemmas.List.{drop_more}
 use Rattle.mill_laws.proofs.Groups.{next_new-append}
 use Rattle.mill_model.specs.Rank.{starts_class_in, same_order}
@@ -58,13 +61,7 @@ goes-on-from mill groups ranked path g d it h n =
 
 pub take-push : (k : ℕ) (path : List ℕ) → k < length path → take (k + 1) path ≡ take k path
     ++ get_or path k 0 ∷ []
-take-push k path h = let e : k + 1 ≡ suc k = omega arith in rw e (go k path h)
-  where
-    go : (k : ℕ) (path : List ℕ) → k < length path → take (suc k) path ≡ take k path
-        ++ get_or path k 0 ∷ []
-    go k [] h = absurd (omega arith)
-    go zero (g ∷ path) h = refl
-    go (suc k) (g ∷ path) h = ap (λ l. g ∷ l) (go k path (omega arith))
+take-push k path h = let e : k + 1 ≡ suc k = omega arith in rw e (take-suc path k 0 h)
 
 module _ (mill : Mill) (ranked : List Order) (path : List ℕ) (k : ℕ) (h : k < length path)
     (so_far : goes_on mill ranked [] path ≡ goes_on mill ranked (take k path) (drop k path)) where

@@ -1,4 +1,6 @@
--- Paths that part: they differ at a place, the first by the smaller number.
+-- Paths that part: they differ at a place, the first by the smaller number. Paths that part still
+-- do when the first goes on, so that children can take the place of their parent among paths that
+-- wait, and all of them come in rising order.
 use Rattle.std.proofs.Common.{ℕ, zero, suc, ◌<◌, ◌≡◌, ◌⊎◌, Bool, true, false, cond, ◌&&◌, ◌||◌}
 use Rattle.std.proofs.Common.{List, [], ◌∷◌, ◌++◌, map, filter, eqb, ltb, refl, ap, arith, inl, inr}
 use Rattle.list_laws.specs.Sets.{below}

@@ -1,15 +1,16 @@
--- The slacks of the groups of a path: one for the live groups of one key, and for each
--- other group what its load is charged.
+-- The slacks of the groups of a path: one for the live groups of one key, and for each other group
+-- what its load is charged. The key of a live group says of its colours what a knapsack over the
+-- later orders asks; a group that isn't live takes no order, so its least slack is its charge.
 use Rattle.std.proofs.Common.{ℕ, zero, suc, ◌+◌, ◌*◌, ◌<◌, ◌≤◌, ◌≡◌, ◌⊎◌, Bool, true, false, List}
 use Rattle.std.proofs.Common.{[], ◌∷◌, map, drop, length, get_or, set, eqb, eq-eqb, eqb-true, refl}
 use Rattle.std.proofs.Common.{sym, ap, ◌∙◌, subst, arith, inl, inr, All, ℤ, pos, slice_index, ◌+ℤ◌}
 use Rattle.std.proofs.Common.{◌++◌, take, ◌&&◌, ◌||◌, ltb, lt-ltb, cond, zero-add, ap₂}
 use Rattle.std.proofs.lemmas.Bool.Decides.{nat_tests}
+use Rattle.std.proofs.Math.Seq.{take-suc}
 use Rattle.std.proofs.lemmas.Int.{ints}
 use Rattle.std.proofs.lemmas.List.{take_all, drop_all, drop_more, get_or-set_same, get_or-set_other}
 use Rattle.std.proofs.lemmas.List.{length-map}
 use Rattle.std.proofs.lemmas.List.Sorted.{All-permutation, IsPermutation-map}
-use Rattle.mill_model.specs.Instance.{IsOrder}
 use Rattle.mill_model.specs.Plan.{slab}
 use Rattle.mill_model.specs.Prices.{least_slack}
 use Rattle.list_laws.specs.Sets.{holds, different, below, times, int_sum, int_total}
@@ -22,14 +23,16 @@ use Rattle.list_laws.proofs.Times.{times-pos, times-among}
 use Rattle.set_minima.specs.Packs.{nobody, colour_at}
 use Rattle.set_minima.specs.Joins.{IsSlab}
 use Rattle.set_minima.proofs.Groups.{dead-least}
-use Rattle.set_minima.specs.Cells.{IsSmall}
 use Rattle.least_slacks.specs.Keys.{AreLeast, HasColours, no_key}
 use Rattle.least_slacks.specs.Limits.{mill_within}
 use Rattle.least_slacks.specs.declared.limits.SlabLimits.{SlabLimits}
-use Rattle.log_checker.specs.Groups.{Seen, AreGroups, nothing_seen}
+use Rattle.log_checker.specs.ByRules.{mill_by, charge_by}
+use Rattle.log_checker.specs.Groups.{Seen, nothing_seen}
 use Rattle.log_checker.specs.Live.{lives, live_of}
 use Rattle.log_checker.specs.Keys.{IsKey, AreSorted, group_in, key_in}
-use Rattle.log_checker.specs.Slacks.{slack_of, no_live}
+use Rattle.log_checker.specs.PathGroups.{group_of, later}
+use Rattle.log_checker.specs.Slacks.{AreLiveSlacks, slack_of, no_live}
+use Rattle.log_checker.specs.declared.grouped_path.GroupedPath.{GroupedPath}
 use Rattle.least_slacks.specs.declared.key.Key.{Key}
 use Rattle.log_checker.specs.declared.keys.LiveGroup.{LiveGroup}
 use Rattle.log_checker.proofs.KeysDecide.{low-from}
@@ -44,9 +47,6 @@ among-sorted : (mill : Mill) (rest : List Order) (groups : List Seen) (sorted : 
 among-sorted mill rest groups sorted g it =
     times-moved eqb g (map group_in it.plain) (map group_in sorted)
     (IsPermutation-map group_in it.plain sorted it.moved) ∙ ap (times eqb g) it.live.numbers
-
-eqb-is : (x y : ℕ) → eqb x y ≡ true → x ≡ y
-eqb-is x y h = eqb-true x y h
 
 map-at : (live : List LiveGroup) (i : ℕ) → i < length live →
     Among (get_or live i no_live).group (map group_in live)
@@ -66,7 +66,7 @@ sorted-lives mill rest groups sorted i it h =
     let b : times eqb g (map group_in sorted) ≡ times eqb g (live_of mill rest groups) =
     among-sorted mill rest groups sorted g it in
     let m : Among g (live_of mill rest groups) =
-    times-among eqb eqb-is g (live_of mill rest groups) (omega arith) in
+    times-among eqb eqb-true g (live_of mill rest groups) (omega arith) in
     let u = Among-unfilter (λ g. lives mill rest (get_or groups g nothing_seen)) g
     (below (length groups)) m in
     (below-lt g (length groups) u.0, u.1)
@@ -145,71 +145,87 @@ keys-legal mill rest groups sorted s i d h =
     (omega (arith, f.0, is.weighs), omega (arith, f.1, is.counts))
 
 -- the least slack for the key of a live group is that of the group
-pub live-slack : (mill : Mill) (limits : SlabLimits) (charges : List ℕ) (ranked : List Order)
-    (path : List ℕ) (prices : List ℤ) (groups : List Seen) (sorted : List LiveGroup)
-    (least : List ℤ) (i : ℕ) → All IsOrder ranked → AreGroups groups path ranked →
-    AreSorted mill (drop (length path) ranked) groups sorted →
-    mill_within limits ≡ mill → limits.charges.now ≡ charges →
-    AreLeast limits (drop (length path) ranked) prices (map key_in sorted) least →
-    i < length sorted →
-    (IsSmall 30000000000000 (get_or least i (pos 0)))
-    × (get_or least i (pos 0)
-    ≡ slack_of mill charges ranked path prices (get_or sorted i no_live).group)
-live-slack mill limits charges ranked path prices groups sorted least i orders it s same charged h
-    here =
-    let rest = drop (length path) ranked in
-    let g = (get_or sorted i no_live).group in
-    let key = (get_or sorted i no_live).key in
-    let seen = get_or groups g nothing_seen in
-    let is : IsKey rest seen key = sorted-keys mill rest groups sorted i s here in
-    let has : HasColours rest key seen.colours =
-    key-colours rest seen key (low-from (length path) ranked orders) is
-    (seen-once seen (slab g path ranked) (it.seen g)) in
-    let n : length (map key_in sorted) ≡ length sorted = length-map sorted key_in in
-    let e : get_or (map key_in sorted) i no_key ≡ key = key-at sorted i no_key here in
-    let has' : HasColours rest (get_or (map key_in sorted) i no_key) seen.colours =
-    subst (λ (k : Key). HasColours rest k seen.colours) (sym e) has in
-    let w : (get_or (map key_in sorted) i no_key).load ≡ seen.load =
-    ap (λ (k : Key). k.load) e ∙ is.weighs in
-    let its : IsSlab (slab g path ranked) (get_or (map key_in sorted) i no_key).load seen.colours =
-    record { weighs = sym (it.seen g).weighs ∙ sym w; same = (it.seen g).has } in
-    let l = h.least i (omega arith) seen.colours (slab g path ranked) has' its in (
-      h.small i (omega arith) seen.colours has',
-      l ∙ ap₂ (λ (m : Mill) (cs : List ℕ). least_slack m (λ k. slice_index cs k)
-          (slab g path ranked) rest prices) same charged,
-    )
+pub live-slacks : (its : GroupedPath) (limits : SlabLimits) (prices : List ℤ)
+    (sorted : List LiveGroup) (least : List ℤ) →
+    AreSorted (mill_by its.rules.now) (later its) its.groups.items sorted →
+    mill_within limits ≡ mill_by its.rules.now →
+    limits.charges.now ≡ its.rules.now.charges.items →
+    AreLeast limits (later its) prices (map key_in sorted) least →
+    AreLiveSlacks (slack_of its prices) sorted least
+live-slacks its limits prices sorted least s same charged h =
+    record {
+      small = λ i here. h.small i (inside i here) (seen i).colours (has i here);
+      each = λ i here.
+          h.least i (inside i here) (seen i).colours (group i) (has i here) (slab_is i here)
+          ∙ ap₂ (λ (m : Mill) (cs : List ℕ). least_slack m (λ k. slice_index cs k) (group i)
+          (later its) prices) same charged;
+    }
+  where
+    number : ℕ → ℕ
+    number i = (get_or sorted i no_live).group
+
+    seen : ℕ → Seen
+    seen i = group_of its (number i)
+
+    group : ℕ → List Order
+    group i = slab (number i) its.path.now its.rules.now.ranked.items
+
+    inside : (i : ℕ) → i < length sorted → i < length (map key_in sorted)
+    inside i here =
+        let n : length (map key_in sorted) ≡ length sorted = length-map sorted key_in in
+        omega arith
+
+    is_key : (i : ℕ) → i < length sorted →
+        IsKey (later its) (seen i) (get_or (map key_in sorted) i no_key)
+    is_key i here =
+        subst (IsKey (later its) (seen i)) (sym (key-at sorted i no_key here))
+        (sorted-keys (mill_by its.rules.now) (later its) its.groups.items sorted i s here)
+
+    has : (i : ℕ) → i < length sorted →
+        HasColours (later its) (get_or (map key_in sorted) i no_key) (seen i).colours
+    has i here =
+        key-colours (later its) (seen i) (get_or (map key_in sorted) i no_key)
+        (low-from (length its.path.now) its.rules.now.ranked.items its.rules.now.setting.orders)
+        (is_key i here) (seen-once (seen i) (group i) (its.grouped.seen (number i)))
+
+    slab_is : (i : ℕ) → i < length sorted →
+        IsSlab (group i) (get_or (map key_in sorted) i no_key).load (seen i).colours
+    slab_is i here =
+        let is = its.grouped.seen (number i) in
+        record { weighs = sym is.weighs ∙ sym (is_key i here).weighs; same = is.has }
 
 -- a group is charged what its load is, or is among the live ones in order
-pub charged-first : (mill : Mill) (charges : List ℕ) (ranked : List Order) (path : List ℕ)
-    (prices : List ℤ) (groups : List Seen) (sorted : List LiveGroup) (slack : ℤ) (g : ℕ) →
-    length prices ≡ length (drop (length path) ranked) → AreGroups groups path ranked →
-    AreSorted mill (drop (length path) ranked) groups sorted → g < length groups →
-    slack ≡ pos (60 * slice_index charges (get_or groups g nothing_seen).load) →
-    (slack ≡ slack_of mill charges ranked path prices g) ⊎ Among g (map group_in sorted)
-charged-first mill charges ranked path prices groups sorted slack g same it s h e =
-    go (lives mill rest (get_or groups g nothing_seen)) refl
+pub charged-first : (its : GroupedPath) (prices : List ℤ) (sorted : List LiveGroup) (slack : ℤ)
+    (g : ℕ) → length prices ≡ length (later its) →
+    AreSorted (mill_by its.rules.now) (later its) its.groups.items sorted →
+    g < length its.groups.items →
+    slack ≡ pos (60 * charge_by its.rules.now (group_of its g).load) →
+    (slack ≡ slack_of its prices g) ⊎ Among g (map group_in sorted)
+charged-first its prices sorted slack g same s h e = go (is_alive g) refl
   where
-    rest : List Order
-    rest = drop (length path) ranked
+    is_alive : ℕ → Bool
+    is_alive g = lives (mill_by its.rules.now) (later its) (group_of its g)
 
-    go : (b : Bool) → lives mill rest (get_or groups g nothing_seen) ≡ b →
-        (slack ≡ slack_of mill charges ranked path prices g) ⊎ Among g (map group_in sorted)
+    alive : List ℕ
+    alive = live_of (mill_by its.rules.now) (later its) its.groups.items
+
+    go : (b : Bool) → is_alive g ≡ b →
+        (slack ≡ slack_of its prices g) ⊎ Among g (map group_in sorted)
     go true l =
-        let m : Among g (live_of mill rest groups) =
-        Among-filter (λ g. lives mill rest (get_or groups g nothing_seen)) g
-        (below (length groups)) l (among-below g (length groups) h) in
-        let a : 0 < times eqb g (live_of mill rest groups) =
-        times-pos eqb (λ x. eq-eqb x x refl) g (live_of mill rest groups) m in
-        let b : times eqb g (map group_in sorted) ≡ times eqb g (live_of mill rest groups) =
-        among-sorted mill rest groups sorted g s in
-        inr (times-among eqb eqb-is g (map group_in sorted) (omega arith))
+        let m : Among g alive = Among-filter is_alive g (below (length its.groups.items)) l
+        (among-below g (length its.groups.items) h) in
+        let a : 0 < times eqb g alive = times-pos eqb (λ x. eq-eqb x x refl) g alive m in
+        let b : times eqb g (map group_in sorted) ≡ times eqb g alive =
+        among-sorted (mill_by its.rules.now) (later its) its.groups.items sorted g s in
+        inr (times-among eqb eqb-true g (map group_in sorted) (omega arith))
     go false l =
-        let dead : is_live mill rest (slab g path ranked) ≡ false =
-        sym (lives-is mill rest (get_or groups g nothing_seen) (slab g path ranked) (it.seen g))
-        ∙ l in
-        inl (e ∙ ap (λ n. pos (60 * slice_index charges n)) (it.seen g).weighs
-        ∙ sym (dead-least mill (λ l. slice_index charges l) rest (slab g path ranked) prices same
-        dead))
+        let group : List Order = slab g its.path.now its.rules.now.ranked.items in
+        let dead : is_live (mill_by its.rules.now) (later its) group ≡ false =
+        sym (lives-is (mill_by its.rules.now) (later its) (group_of its g) group
+        (its.grouped.seen g)) ∙ l in
+        inl (e ∙ ap (λ n. pos (60 * charge_by its.rules.now n)) (its.grouped.seen g).weighs
+        ∙ sym (dead-least (mill_by its.rules.now) (charge_by its.rules.now) (later its) group
+        prices same dead))
 
 -- one live group more has its slack
 pub slack-step : (slack : ℕ → ℤ) (live : List LiveGroup) (old new : List ℤ) (i n h : ℕ) (z : ℤ) →
@@ -267,19 +283,13 @@ slacks-sum slack slacks n long each =
     go zero h = refl
     go (suc m) h =
         let t : take (suc m) slacks ≡ take m slacks ++ get_or slacks m (pos 0) ∷ [] =
-        more m slacks (omega (arith, long)) in
+        take-suc slacks m (pos 0) (omega (arith, long)) in
         let e : get_or slacks m (pos 0) ≡ slack m = each m (omega arith) in
         let s : int_sum (take m slacks ++ slack m ∷ []) ≡ int_sum (take m slacks) +ℤ slack m =
         sum-push (take m slacks) (slack m) in
         ap int_sum (t ∙ ap (λ z. take m slacks ++ z ∷ []) e) ∙ s
         ∙ ap (λ z. z +ℤ slack m) (go m (omega arith))
       where
-        more : (i : ℕ) (xs : List ℤ) → i < length xs →
-            take (suc i) xs ≡ take i xs ++ get_or xs i (pos 0) ∷ []
-        more i [] h = absurd (omega arith)
-        more zero (x ∷ xs) h = refl
-        more (suc i) (x ∷ xs) h = ap (λ l. x ∷ l) (more i xs (omega arith))
-
         sum-push : (xs : List ℤ) (z : ℤ) → int_sum (xs ++ z ∷ []) ≡ int_sum xs +ℤ z
         sum-push [] z = omega (arith, ints)
         sum-push (x ∷ xs) z =

@@ -1,4 +1,6 @@
--- A log has one verdict.
+-- A log has one verdict. A verdict names a path that is wrong, of one kind, with nothing wrong
+-- before it. Of two such paths neither comes before the other, so they are one; and no path is
+-- wrong in two ways. A log that refutes a loss has no wrong path.
 use Rattle.std.proofs.Common.{ℕ, ◌≡◌, Bool, true, false, not, ◌&&◌, ◌||◌, List, [], ◌∷◌, refl, ap}
 use Rattle.std.proofs.Common.{subst, arith, inl, inr}
 use Rattle.std.specs.List.{list_any, AllByRecursion}

@@ -1,4 +1,5 @@
--- Children that are opened from the last to the first.
+-- Children that are opened from the last to the first, so that the first waits last and comes next.
+-- As paths that are to come they are those of the definition, in rising order.
 use Rattle.std.proofs.Common.{ℕ, zero, suc, ◌+◌, ◌-◌, ◌≤◌, ◌≡◌, Bool, true, false, cond, List, []}
 use Rattle.std.proofs.Common.{◌∷◌, ◌++◌, map, filter, get_or, reverse, refl, ap, ◌∙◌, arith}
 use Rattle.std.proofs.Common.{append_assoc}

@@ -43,6 +43,3 @@ opened_from mill ranked path i Split =
 opened_from mill ranked path i Leaf = []
 opened_from mill ranked path i (Priced prices) = []
 opened_from mill ranked path i (Dominated other) = []
-
-abbrev pub opened_by : Mill → List Order → Entry → ℕ → List Wanted
-opened_by mill ranked entry i = opened_from mill ranked entry.path i entry.closing

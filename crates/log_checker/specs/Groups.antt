@@ -1,5 +1,5 @@
 -- The groups of a path, by their loads and colours.
-use Rattle.std.specs.Prelude.{ℕ, ◌+◌, ◌≤◌, ◌*◌, ◌≡◌, Bool, cond, ◌&&◌, List, [], ◌∷◌, ◌++◌, length}
+use Rattle.std.specs.Prelude.{ℕ, ◌+◌, ◌≡◌, Bool, cond, ◌&&◌, List, [], ◌∷◌, ◌++◌, length}
 use Rattle.std.specs.Prelude.{leb, get_or}
 use Rattle.list_laws.specs.Sets.{holds}
 use Rattle.mill_model.specs.Slab.{Mill, load, colours}
@@ -7,7 +7,6 @@ use Rattle.mill_model.specs.Plan.{slab}
 use Rattle.mill_model.specs.Tree.{next_new}
 use Rattle.mill_model.specs.LiveKey.{has_colour}
 use Rattle.mill_model.specs.declared.order.Order.{Order}
-use Rattle.mill_model.specs.declared.order.TheConstants.{MAX_ORDERS}
 
 -- a load, and each colour once
 pub record Seen : Type 0 where
@@ -43,4 +42,3 @@ nothing_seen = record { load = 0; colours = [] }
 pub record AreGroups (groups : List Seen) (path : List ℕ) (ranked : List Order) : Type 0 where
   pub count : length groups ≡ next_new path
   pub seen : (g : ℕ) → IsSeen (get_or groups g nothing_seen) (slab g path ranked)
-  pub light : (g : ℕ) → (get_or groups g nothing_seen).load ≤ MAX_ORDERS * 1000000

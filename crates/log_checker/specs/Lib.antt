@@ -5,4 +5,5 @@ pub mod Live
 pub mod Agenda
 pub mod Verdict
 pub mod Keys
+pub mod PathGroups
 pub mod Slacks

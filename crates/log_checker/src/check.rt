@@ -1,47 +1,35 @@
 // One pass over a log, with the paths that are still to come.
 
-ghost use Rattle.std.specs.Prelude.{◌≡◌, ◌<◌, ◌≤◌, ◌+◌, ◌↔◌, ℕ, [], ◌∷◌, ◌++◌, drop, length, IfOk};
-ghost use Rattle.std.specs.Prelude.{OnOk, IfSome, IfNone, true, false, List, cond};
+ghost use Rattle.std.specs.Prelude.{◌≡◌, ◌<◌, ◌+◌, ◌↔◌, ℕ, drop, length, IfOk};
+ghost use Rattle.std.specs.Prelude.{IfSome, IfNone, true, false, List, cond};
 ghost use Rattle.std.specs.List.{list_all};
 ghost use Rattle.list_laws.specs.Sets.{same_list};
-ghost use Rattle.mill_model.specs.Log.{recorded, left_open, Refutes as LogRefutes};
-ghost use Rattle.refute_log.specs.Rising.{comes_before, path_order, rises};
-ghost use Rattle.refute_log.specs.Fits.{path_fits, fits};
+ghost use Rattle.mill_model.specs.Log.{recorded, Refutes as LogRefutes};
+ghost use Rattle.refute_log.specs.Rising.{comes_before, rises};
+ghost use Rattle.refute_log.specs.Fits.{fits};
 ghost use Rattle.mill_model.specs.Instance.{mill_of};
 ghost use Rattle.mill_model.specs.Plan.{NoneLosesLess};
 ghost use Rattle.mill_model.specs.Charges.{charge_of, Reaches};
 ghost use Rattle.mill_model.specs.Log.{task_of};
-ghost use Rattle.log_checker.specs.ByRules.{task_by, mill_by};
+ghost use Rattle.log_checker.specs.ByRules.{task_by};
 ghost use Rattle.log_checker.specs.Verdict.{is_missing, is_stray, is_unsound, is_wrong, IsFirst};
 ghost use Rattle.log_checker.specs.Verdict.{IsVerdict, verdict_from};
-ghost use Rattle.log_checker.specs.Agenda.{wanted_path, to_come, is_within, is_split, opened_by};
+ghost use Rattle.log_checker.specs.Agenda.{wanted_path, to_come, is_within};
 ghost use Rattle.log_checker.specs.declared.verdict.LogVerdict.TheVariants.{Missing, Stray};
 ghost use Rattle.log_checker.specs.declared.verdict.LogVerdict.TheVariants.{Refutes, Unsound};
 ghost use Rattle.least_slacks.specs.Keys.{HasRoom};
 
 use crate::LogVerdict;
-use crate::agenda::Wanted;
-use crate::groups::groups_of;
+use crate::agenda::{Wanted, compare_wanted, open, path_of};
+use crate::from_instance::rules_of;
+use crate::grouped_path::GroupedPath;
 use crate::rules::Rules;
-use crate::setting::rules_of;
 use crate::sound::holds_up;
-use crate::tree::open_children;
 use least_slacks::SlackTables;
-use mill_model::{Charges, Closing, Entry, Instance, OutOfMemory, Path};
-use refute_log::{Log, compare};
+use mill_model::{Charges, Entry, Instance, OutOfMemory};
+use refute_log::Log;
 use std::alloc::Global;
 use std::cmp::Ordering;
-
-/// The path that is named.
-fn path_of(alloc: Global, log: &[Entry], wanted: Wanted) -> Result<Path, OutOfMemory>
-    requires { is_within (length log.now) wanted ≡ true }
-    ensures { IfOk result (λ path. path ≡ wanted_path log.now wanted) }
-{
-    match wanted {
-        Wanted::Root => Ok(Path::root(alloc)),
-        Wanted::Child { parent, group } => log[parent].path.child(group),
-    }
-}
 
 /// That a path has no record.
 fn missing(alloc: Global, log: &[Entry], wanted: Wanted) -> Result<LogVerdict, OutOfMemory>
@@ -50,25 +38,6 @@ fn missing(alloc: Global, log: &[Entry], wanted: Wanted) -> Result<LogVerdict, O
 {
     let path = path_of(alloc, log, wanted)?;
     Ok(LogVerdict::Missing { path })
-}
-
-/// Compares the child of a path with another path.
-fn compare_child(parent: &[u16], group: u16, path: &[u16]) -> Ordering
-    ensures { result ≡ path_order (parent.now ++ group ∷ []) path.now }
-{
-    let (front, rest) = path.split_at(parent.len().min(path.len()));
-    compare(parent, front).then(compare(&[group], rest))
-}
-
-/// Compares the path that is named with another path.
-fn compare_wanted(log: &[Entry], wanted: Wanted, path: &[u16]) -> Ordering
-    requires { is_within (length log.now) wanted ≡ true }
-    ensures { result ≡ path_order (wanted_path log.now wanted) path.now }
-{
-    match wanted {
-        Wanted::Root => compare(&[], path),
-        Wanted::Child { parent, group } => compare_child(log[parent].path.numbers(), group, path),
-    }
 }
 
 /// What is wrong where a record stands at another path than the next one that is wanted.
@@ -98,37 +67,15 @@ fn misplaced(
     }
 }
 
-/// Lets the children that a record leaves open wait.
-fn open(
-    alloc: Global,
-    waiting: &mut Vec<Wanted>,
-    rules: &Rules,
-    entry: &Entry,
-    i: usize,
-) -> Result<(), OutOfMemory>
-    requires fits { path_fits (length rules.now.ranked.items) entry.now.path ≡ true }
-    requires split { is_split entry.now.closing ≡ true →
-        length entry.now.path < length rules.now.ranked.items }
-    ensures { OnOk result (waiting.new.items ≡ waiting.old.items
-        ++ opened_by (mill_by rules.now) rules.now.ranked.items entry.now i) }
-{
-    if let Closing::Split = entry.closing {
-        let path = entry.path.numbers();
-        let groups = groups_of(alloc, rules, path)?;
-        open_children(waiting, rules, &groups, path, i)?;
-    }
-    Ok(())
-}
-
 /// Judges one record, where the last waiting path is the next one that is wanted.
 fn judge_record(
     alloc: Global,
     waiting: &mut Vec<Wanted>,
-    rules: &Rules,
     tables: &mut SlackTables,
-    loss: u64,
+    rules: &Rules,
     log: &[Entry],
     i: usize,
+    loss: u64,
 ) -> Result<Option<LogVerdict>, OutOfMemory>
     requires fits { list_all (fits (length rules.now.ranked.items)) log.now ≡ true }
     requires rising { rises (recorded log.now) ≡ true }
@@ -156,12 +103,13 @@ fn judge_record(
         Some(verdict) => return Ok(Some(verdict)),
         None => {}
     }
-    let good = holds_up(alloc, rules, tables, loss, log, entry)?;
+    let grouped = GroupedPath::of(alloc, rules, entry.path.numbers())?;
+    let good = holds_up(alloc, tables, log, &grouped, &entry.closing, loss)?;
     if !good {
         let path = entry.path.copy()?;
         return Ok(Some(LogVerdict::Unsound { path }));
     }
-    open(alloc, waiting, rules, entry, i)?;
+    open(waiting, &grouped, &entry.closing, i)?;
     Ok(None)
 }
 
@@ -169,8 +117,8 @@ fn judge_record(
 fn check_by(
     alloc: Global,
     rules: &Rules,
-    loss: u64,
     log: &[Entry],
+    loss: u64,
 ) -> Result<LogVerdict, OutOfMemory>
     requires fits { list_all (fits (length rules.now.ranked.items)) log.now ≡ true }
     requires rising { rises (recorded log.now) ≡ true }
@@ -181,7 +129,7 @@ fn check_by(
     let mut waiting = Vec::new(alloc);
     waiting.push(Wanted::Root)?;
     for i in 0..log.len() {
-        let found = judge_record(alloc, &mut waiting, rules, &mut tables, loss, log, i)?;
+        let found = judge_record(alloc, &mut waiting, &mut tables, rules, log, i, loss)?;
         match found {
             Some(verdict) => return Ok(verdict),
             None => {}
@@ -220,6 +168,6 @@ pub fn check_log(
         loss) }
 {
     let rules = rules_of(alloc, instance, charges)?;
-    let verdict = check_by(alloc, &rules, loss, log.entries())?;
+    let verdict = check_by(alloc, &rules, log.entries(), loss)?;
     Ok(verdict)
 }

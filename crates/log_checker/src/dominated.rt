@@ -1,18 +1,18 @@
-// Whether the path that a dominated record names is in the tree and settled.
+// Records of dominated paths: the named path has a record that isn't dominated, is in the tree, and
+// has the same live key and no greater dead loss.
 
-ghost use Rattle.std.specs.Prelude.{◌≡◌, ◌<◌, ◌≤◌, ◌^◌, ◌*◌, ◌+◌, ◌&&◌, ◌||◌, IfOk, true, [], take};
-ghost use Rattle.std.specs.Prelude.{length, replicate, slice_index, slice_index_or};
+ghost use Rattle.std.specs.Prelude.{◌≡◌, ◌<◌, ◌-◌, ◌&&◌, IfOk, true, leb, length};
+ghost use Rattle.mill_model.specs.LiveKey.{same_live_key, dead_loss};
 ghost use Rattle.mill_model.specs.Log.{recorded, is_settled, is_dominated};
-ghost use Rattle.mill_model.specs.Plan.{slab};
-ghost use Rattle.mill_model.specs.Tree.{in_tree, next_new, may_go_on, goes_on};
+ghost use Rattle.mill_model.specs.declared.closing.Closing.TheVariants.{Dominated};
 ghost use Rattle.refute_log.specs.Rising.{rises};
-ghost use Rattle.log_checker.specs.Groups.{nothing_seen, IsSeen};
-ghost use Rattle.log_checker.specs.ByRules.{mill_by};
-ghost use Rattle.mill_model.specs.declared.order.TheConstants.{MAX_ORDERS};
+ghost use Rattle.refute_log.specs.Fits.{path_fits};
+ghost use Rattle.log_checker.specs.ByRules.{mill_by, task_by, charge_by};
+ghost use Rattle.log_checker.specs.Verdict.{holds_up};
 
-use crate::groups::{Group, empty_groups, group_count, join_at};
-use crate::rules::Rules;
-use crate::tree::may_go_on;
+use crate::grouped_path::GroupedPath;
+use crate::keys::same_live_key;
+use crate::tree::starts_class;
 use mill_model::{Closing, Entry, OutOfMemory};
 use refute_log::compare;
 use std::alloc::Global;
@@ -28,7 +28,7 @@ fn is_dominated(closing: &Closing) -> bool
 }
 
 /// Whether a path has a record that isn't dominated.
-pub(crate) fn is_settled(log: &[Entry], path: &[u16]) -> bool
+fn is_settled(log: &[Entry], path: &[u16]) -> bool
     requires { rises (recorded log.now) ≡ true }
     ensures { result ≡ is_settled log.now path.now }
 {
@@ -46,54 +46,49 @@ pub(crate) fn is_settled(log: &[Entry], path: &[u16]) -> bool
     false
 }
 
-/// Whether the first `k` numbers of a path, of which `count` is the next new one, may go on with
-/// the next.
-fn goes_on_at(rules: &Rules, groups: &[Group], path: &[u16], k: usize, count: usize) -> bool
-    requires here { k < length path.now }
-    requires within { length path.now ≤ length rules.now.ranked.items }
-    requires seen { IsSeen (slice_index_or groups.now (slice_index path.now k) nothing_seen)
-        (slab (slice_index path.now k) (take k path.now) rules.now.ranked.items) }
-    requires light { (slice_index_or groups.now (slice_index path.now k) nothing_seen).load
-        ≤ MAX_ORDERS * 1000000 }
-    requires count { count ≡ next_new (take k path.now) }
-    ensures { result ≡ may_go_on (mill_by rules.now) rules.now.ranked.items (take k path.now)
-        (slice_index path.now k) }
+/// Whether a path has the live key of another of its length, and no less dead loss.
+fn is_carried(alloc: Global, path: &GroupedPath, other: &GroupedPath) -> Result<bool, OutOfMemory>
+    requires rules { other.now.rules.now ≡ path.now.rules.now }
+    requires same { length other.now.path.now ≡ length path.now.path.now }
+    ensures { IfOk result (λ yes. yes ≡
+        (same_live_key (mill_by path.now.rules.now) path.now.rules.now.ranked.items
+        path.now.path.now other.now.path.now
+        && leb (dead_loss (mill_by path.now.rules.now) (charge_by path.now.rules.now)
+        path.now.rules.now.ranked.items other.now.path.now)
+        (dead_loss (mill_by path.now.rules.now) (charge_by path.now.rules.now)
+        path.now.rules.now.ranked.items path.now.path.now))) }
 {
-    let g = path[k];
-    if count < g as usize {
-        return false;
-    }
-    may_go_on(rules, groups, &path[..k], g)
-}
-
-fn goes_through(rules: &Rules, groups: &mut [Group], path: &[u16]) -> Result<bool, OutOfMemory>
-    requires within { length path.now ≤ length rules.now.ranked.items }
-    requires empty { groups.old ≡ replicate (next_new path.now) nothing_seen }
-    ensures { IfOk result (λ yes.
-        yes ≡ goes_on (mill_by rules.now) rules.now.ranked.items [] path.now) }
-{
-    let mut count = 0usize;
-    for k in 0..path.len() {
-        let on = goes_on_at(rules, groups, path, k, count);
-        if !on {
-            return Ok(false);
-        }
-        let order = rules.order(k);
-        join_at(groups, path[k] as usize, order)?;
-        count = count.max(path[k] as usize + 1);
-    }
-    Ok(true)
-}
-
-/// Whether a path is in the tree.
-pub(crate) fn in_tree(alloc: Global, rules: &Rules, path: &[u16]) -> Result<bool, OutOfMemory>
-    ensures { IfOk result (λ yes.
-        yes ≡ in_tree (mill_by rules.now) rules.now.ranked.items path.now) }
-{
-    if rules.ranked.len() < path.len() {
+    if !same_live_key(alloc, path, other)? {
         return Ok(false);
     }
-    let mut groups = empty_groups(alloc, group_count(path))?;
-    let yes = goes_through(rules, &mut groups, path)?;
-    Ok(yes)
+    let dead = path.dead_charge();
+    let other_dead = other.dead_charge();
+    Ok(other_dead <= dead)
+}
+
+/// Whether a dominated record is sound, and what it names is settled.
+pub(crate) fn dominated_holds_up(
+    alloc: Global,
+    log: &[Entry],
+    path: &GroupedPath,
+    other: &[u16],
+    loss: u64,
+) -> Result<bool, OutOfMemory>
+    requires fits { path_fits (length path.now.rules.now.ranked.items) other.now ≡ true }
+    requires same { length other.now ≡ length path.now.path.now }
+    requires rising { rises (recorded log.now) ≡ true }
+    ensures { IfOk result (λ yes. yes ≡ holds_up (task_by path.now.rules.now) loss log.now
+        (record { path = path.now.path.now; closing = Dominated other.now })) }
+{
+    if !is_settled(log, other) {
+        return Ok(false);
+    }
+    if !starts_class(path.rules, path.path.len()) {
+        return Ok(false);
+    }
+    let found = GroupedPath::in_tree(alloc, path.rules, other)?;
+    match found {
+        Some(named) => is_carried(alloc, path, &named),
+        None => Ok(false),
+    }
 }

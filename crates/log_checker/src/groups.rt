@@ -1,9 +1,9 @@
-// The groups of a path: what each weighs, and its colours.
+// Groups of orders: what each weighs, and its colours.
 
-ghost use Rattle.std.specs.Prelude.{◌≡◌, ◌<◌, ◌≤◌, ◌^◌, ◌+◌, ◌*◌, ℕ, [], OnOk, IfOk, length};
+ghost use Rattle.std.specs.Prelude.{◌≡◌, ◌<◌, ◌≤◌, ◌^◌, ◌+◌, [], OnOk, IfOk, length};
 ghost use Rattle.std.specs.Prelude.{replicate, slice_index_or, slice_set};
 ghost use Rattle.mill_model.specs.Tree.{next_new};
-ghost use Rattle.log_checker.specs.Groups.{joined, may_be, with_colour, nothing_seen, AreGroups};
+ghost use Rattle.log_checker.specs.Groups.{joined, may_be, with_colour, nothing_seen};
 ghost use Rattle.log_checker.specs.ByRules.{mill_by};
 
 use crate::rules::Rules;
@@ -86,10 +86,9 @@ impl Group {
 
     /// Whether the group stays legal with one more order.
     pub(crate) fn may_join(&self, rules: &Rules, order: Order) -> bool
-        requires { self.now.load + order.weight < 2 ^ 64 }
         ensures { result ≡ may_be (mill_by rules.now) (joined self.now order) }
     {
-        self.load + order.weight as u64 <= rules.largest as u64
+        self.load as u128 + order.weight as u128 <= rules.largest as u128
             && count_with(self.colours.as_slice(), order.colour) <= rules.most_colours as usize
     }
 }
@@ -126,31 +125,4 @@ pub(crate) fn join_at(groups: &mut [Group], number: usize, order: Order) -> Resu
         (joined (slice_index_or groups.old number nothing_seen) order)) }
 {
     groups[number].join(order)
-}
-
-/// Puts each order of a path into its group.
-fn fill_groups(groups: &mut [Group], rules: &Rules, path: &[u16]) -> Result<(), OutOfMemory>
-    requires within { length path.now ≤ length rules.now.ranked.items }
-    requires empty { groups.old ≡ replicate (next_new path.now) nothing_seen }
-    ensures { OnOk result (AreGroups groups.new path.now rules.now.ranked.items) }
-{
-    for i in 0..path.len() {
-        let order = rules.order(i);
-        join_at(groups, path[i] as usize, order)?;
-    }
-    Ok(())
-}
-
-/// The groups of a path.
-pub(crate) fn groups_of(
-    alloc: Global,
-    rules: &Rules,
-    path: &[u16],
-) -> Result<Vec<Group>, OutOfMemory>
-    requires within { length path.now ≤ length rules.now.ranked.items }
-    ensures { IfOk result (λ groups. AreGroups groups.items path.now rules.now.ranked.items) }
-{
-    let mut groups = empty_groups(alloc, group_count(path))?;
-    fill_groups(&mut groups, rules, path)?;
-    Ok(groups)
 }

@@ -1,16 +1,17 @@
 // The live groups of a path by their keys, and whether two paths have the same.
 
-ghost use Rattle.std.specs.Prelude.{◌≡◌, ◌<◌, ◌≤◌, ◌+◌, ◌*◌, ℕ, List, IfOk, OnOk, drop, length};
-ghost use Rattle.std.specs.Prelude.{true, slice_index_or, slice_set, IfSome, IfNone, false};
+ghost use Rattle.std.specs.Prelude.{◌≡◌, ◌<◌, ◌≤◌, ◌+◌, IfOk, drop, length, true, false, slice_set};
+ghost use Rattle.std.specs.Prelude.{IfSome, IfNone};
 ghost use Rattle.std.specs.List.Sorted.{IsPermutation, IsSortedByKey};
 ghost use Rattle.list_laws.specs.Sets.{different};
-ghost use Rattle.log_checker.specs.Groups.{Seen, nothing_seen};
+ghost use Rattle.mill_model.specs.LiveKey.{same_live_key};
 ghost use Rattle.log_checker.specs.ByRules.{mill_by};
-ghost use Rattle.log_checker.specs.Live.{lives, same_live_seen};
+ghost use Rattle.log_checker.specs.Live.{lives};
 ghost use Rattle.log_checker.specs.Keys.{key_order, key_in, IsKey, AreLive, AreComing, comes_in};
 ghost use Rattle.log_checker.specs.Keys.{AreSorted, same_key, same_keys};
-ghost use Rattle.mill_model.specs.declared.order.TheConstants.{MAX_ORDERS};
+ghost use Rattle.log_checker.specs.PathGroups.{later, group_of};
 
+use crate::grouped_path::GroupedPath;
 use crate::groups::Group;
 use crate::live::is_live;
 use crate::rules::Rules;
@@ -49,25 +50,49 @@ fn coming_colours(rules: &Rules, group: &Group, k: usize) -> [u16; 8]
     let mut coming = [NO_COLOUR; 8];
     let mut count = 0;
     for i in 0..colours.len() {
-        let comes = rules.comes(colours[i], k);
+        let comes = rules.comes(k, colours[i]);
         count = note_coming(&mut coming, count, colours[i], comes);
     }
     coming.sort_unstable();
     coming
 }
 
-/// A group as the orders from rank `k` on see it.
-fn key_of(rules: &Rules, group: &Group, k: usize) -> Key
-    requires few { length group.now.colours ≤ 8 }
-    requires once { length group.now.colours ≡ different group.now.colours }
-    ensures { IsKey (drop k rules.now.ranked.items) group.now result }
+/// A group as the later orders see it, where it is live.
+fn live_group(path: &GroupedPath, g: usize) -> Option<LiveGroup>
+    requires here { g < length path.now.groups.items }
+    ensures some { IfSome result (λ live. (live.group ≡ g)
+        × IsKey (later path.now) (group_of path.now g) live.key
+        × (lives (mill_by path.now.rules.now) (later path.now) (group_of path.now g) ≡ true)) }
+    ensures none { IfNone result
+        (lives (mill_by path.now.rules.now) (later path.now) (group_of path.now g) ≡ false) }
 {
-    let coming = coming_colours(rules, group, k);
-    Key {
+    let group = &path.groups[g];
+    let k = path.path.len();
+    if !is_live(path.rules, group, k) {
+        return None;
+    }
+    let coming = coming_colours(path.rules, group, k);
+    let key = Key {
         coming,
         colours: group.colours().len(),
         load: group.load(),
+    };
+    Some(LiveGroup { key, group: g })
+}
+
+/// The live groups of a path, each with its key.
+fn live_groups(alloc: Global, path: &GroupedPath) -> Result<Vec<LiveGroup>, OutOfMemory>
+    ensures { IfOk result (λ live. AreLive (mill_by path.now.rules.now) (later path.now)
+        path.now.groups.items live.items) }
+{
+    let mut live = Vec::new(alloc);
+    for g in 0..path.groups.len() {
+        match live_group(path, g) {
+            Some(group) => live.push(group)?,
+            None => {}
+        }
     }
+    Ok(live)
 }
 
 /// Sorts live groups by their keys.
@@ -78,55 +103,18 @@ fn sort(live: &mut Vec<LiveGroup>)
     live.sort_unstable_by_key(|live| live.key);
 }
 
-/// The key of a group, where it is live.
-fn live_group(rules: &Rules, groups: &[Group], k: usize, g: usize) -> Option<LiveGroup>
-    requires here { g < length groups.now }
-    requires rank { k ≤ length rules.now.ranked.items }
-    requires light { (slice_index_or groups.now g nothing_seen).load ≤ MAX_ORDERS * 1000000 }
-    requires once { length (slice_index_or groups.now g nothing_seen).colours
-        ≡ different (slice_index_or groups.now g nothing_seen).colours }
-    ensures some { IfSome result (λ live. (live.group ≡ g)
-        × IsKey (drop k rules.now.ranked.items) (slice_index_or groups.now g nothing_seen) live.key
-        × (lives (mill_by rules.now) (drop k rules.now.ranked.items)
-        (slice_index_or groups.now g nothing_seen) ≡ true)) }
-    ensures none { IfNone result (lives (mill_by rules.now) (drop k rules.now.ranked.items)
-        (slice_index_or groups.now g nothing_seen) ≡ false) }
+/// The live groups of a path in the order of their keys.
+pub(crate) fn sorted_live(alloc: Global, path: &GroupedPath) -> Result<Vec<LiveGroup>, OutOfMemory>
+    ensures { IfOk result (λ live. AreSorted (mill_by path.now.rules.now) (later path.now)
+        path.now.groups.items live.items) }
 {
-    let group = &groups[g];
-    if !is_live(group, rules, k) {
-        return None;
-    }
-    let key = key_of(rules, group, k);
-    Some(LiveGroup { key, group: g })
-}
-
-/// The live groups of a path, each with its key.
-fn live_groups(
-    alloc: Global,
-    rules: &Rules,
-    groups: &[Group],
-    k: usize,
-) -> Result<Vec<LiveGroup>, OutOfMemory>
-    requires rank { k ≤ length rules.now.ranked.items }
-    requires light { (g : ℕ) →
-        (slice_index_or groups.now g nothing_seen).load ≤ MAX_ORDERS * 1000000 }
-    requires once { (g : ℕ) → length (slice_index_or groups.now g nothing_seen).colours
-        ≡ different (slice_index_or groups.now g nothing_seen).colours }
-    ensures { IfOk result (λ live.
-        AreLive (mill_by rules.now) (drop k rules.now.ranked.items) groups.now live.items) }
-{
-    let mut live = Vec::new(alloc);
-    for g in 0..groups.len() {
-        match live_group(rules, groups, k, g) {
-            Some(group) => live.push(group)?,
-            None => {}
-        }
-    }
+    let mut live = live_groups(alloc, path)?;
+    sort(&mut live);
     Ok(live)
 }
 
 /// Whether two keys are the same.
-pub(crate) fn same_key(a: Key, b: Key) -> bool
+fn same_key(a: Key, b: Key) -> bool
     ensures { result ≡ same_key a b }
 {
     a == b
@@ -147,47 +135,18 @@ fn same_keys(a: &[LiveGroup], b: &[LiveGroup]) -> bool
     true
 }
 
-/// The live groups of a path in the order of their keys.
-pub(crate) fn sorted_live(
+/// Whether two paths of one length have the same live key.
+pub(crate) fn same_live_key(
     alloc: Global,
-    rules: &Rules,
-    groups: &[Group],
-    k: usize,
-) -> Result<Vec<LiveGroup>, OutOfMemory>
-    requires rank { k ≤ length rules.now.ranked.items }
-    requires light { (g : ℕ) →
-        (slice_index_or groups.now g nothing_seen).load ≤ MAX_ORDERS * 1000000 }
-    requires once { (g : ℕ) → length (slice_index_or groups.now g nothing_seen).colours
-        ≡ different (slice_index_or groups.now g nothing_seen).colours }
-    ensures { IfOk result (λ live. AreSorted (mill_by rules.now) (drop k rules.now.ranked.items)
-        groups.now live.items) }
-{
-    let mut live = live_groups(alloc, rules, groups, k)?;
-    sort(&mut live);
-    Ok(live)
-}
-
-/// Whether the live groups of two paths are the same, each as often.
-pub(crate) fn same_live(
-    alloc: Global,
-    rules: &Rules,
-    first: &[Group],
-    second: &[Group],
-    k: usize,
+    path: &GroupedPath,
+    other: &GroupedPath,
 ) -> Result<bool, OutOfMemory>
-    requires rank { k ≤ length rules.now.ranked.items }
-    requires first_light { (g : ℕ) → (slice_index_or first.now g nothing_seen).load ≤ MAX_ORDERS *
-        1000000 }
-    requires first_once { (g : ℕ) → length (slice_index_or first.now g nothing_seen).colours
-        ≡ different (slice_index_or first.now g nothing_seen).colours }
-    requires second_light { (g : ℕ) → (slice_index_or second.now g nothing_seen).load ≤ MAX_ORDERS *
-        1000000 }
-    requires second_once { (g : ℕ) → length (slice_index_or second.now g nothing_seen).colours
-        ≡ different (slice_index_or second.now g nothing_seen).colours }
-    ensures { IfOk result (λ yes. yes ≡
-        same_live_seen (mill_by rules.now) (drop k rules.now.ranked.items) first.now second.now) }
+    requires rules { other.now.rules.now ≡ path.now.rules.now }
+    requires same { length other.now.path.now ≡ length path.now.path.now }
+    ensures { IfOk result (λ yes. yes ≡ same_live_key (mill_by path.now.rules.now)
+        path.now.rules.now.ranked.items path.now.path.now other.now.path.now) }
 {
-    let a = sorted_live(alloc, rules, first, k)?;
-    let b = sorted_live(alloc, rules, second, k)?;
+    let a = sorted_live(alloc, path)?;
+    let b = sorted_live(alloc, other)?;
     Ok(same_keys(&a, &b))
 }

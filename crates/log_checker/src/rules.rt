@@ -1,17 +1,18 @@
 // The rules that records are judged by: the mill, the orders in rank and the charges.
 
-ghost use Rattle.std.specs.Prelude.{◌≡◌, ◌<◌, ◌≤◌, ◌+◌, true, length, slice_index, slice_index_or};
-ghost use Rattle.std.specs.Prelude.{drop, eqb, IfSome, IfNone, []};
+ghost use Rattle.std.specs.Prelude.{◌≡◌, ◌<◌, ◌≤◌, true, length, slice_index, slice_index_or};
+ghost use Rattle.std.specs.Prelude.{drop, eqb, IfSome, IfNone};
 ghost use Rattle.mill_model.specs.LiveKey.{has_colour};
+ghost use Rattle.mill_model.specs.declared.charges.TheConstants.{MAX_CHARGE};
 ghost use Rattle.log_checker.specs.Groups.{no_order};
 ghost use Rattle.log_checker.specs.Live.{IsLightest, AreNone};
 ghost use Rattle.log_checker.specs.Setting.{IsSetting, AreEnds};
-ghost use Rattle.mill_model.specs.declared.charges.TheConstants.{MAX_CHARGE};
 
 use least_slacks::SlabLimits;
 use mill_model::Order;
 
 /// What a log is judged by: the orders in rank, the charge of each load, and what a slab may hold.
+/// The charges are a slice, as the least slacks read them.
 #[derive(Drop)]
 pub(crate) struct Rules {
     pub(crate) ranked: Vec<Order>,
@@ -43,7 +44,7 @@ impl Rules {
     }
 
     /// Whether some order from a rank on has a colour.
-    pub(crate) fn comes(&self, colour: u16, rank: usize) -> bool
+    pub(crate) fn comes(&self, rank: usize, colour: u16) -> bool
         ensures { result ≡ has_colour (drop rank self.now.ranked.items) colour }
     {
         if self.last.len() <= colour as usize {
@@ -56,7 +57,6 @@ impl Rules {
     pub(crate) fn lightest(&self, rank: usize) -> Option<Order>
         ensures some { IfSome result
             (IsLightest (λ order. true) (drop rank self.now.ranked.items)) }
-        ensures light { IfSome result (λ order. order.weight ≤ 1000000) }
         ensures none { IfNone result
             (AreNone (λ order. true) (drop rank self.now.ranked.items)) }
     {
@@ -67,14 +67,13 @@ impl Rules {
     }
 
     /// The lightest order of a colour from a rank on.
-    pub(crate) fn lightest_of(&self, colour: u16, rank: usize) -> Option<Order>
+    pub(crate) fn lightest_of(&self, rank: usize, colour: u16) -> Option<Order>
         ensures some { IfSome result
             (IsLightest (λ order. eqb colour order.colour) (drop rank self.now.ranked.items)) }
-        ensures light { IfSome result (λ order. order.weight ≤ 1000000) }
         ensures none { IfNone result
             (AreNone (λ order. eqb colour order.colour) (drop rank self.now.ranked.items)) }
     {
-        if !self.comes(colour, rank) {
+        if !self.comes(rank, colour) {
             return None;
         }
         Some(self.order(self.last[colour as usize] - 1))

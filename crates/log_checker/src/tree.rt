@@ -1,18 +1,14 @@
-// The children of a path.
+// Whether a path may go on with a group, and whether it is in the tree.
 
-ghost use Rattle.std.specs.Prelude.{◌≡◌, ◌<◌, ◌≤◌, ◌^◌, ◌*◌, ◌+◌, ◌&&◌, ◌||◌, [], ◌∷◌, ◌++◌, OnOk};
-ghost use Rattle.std.specs.Prelude.{length, cond, slice_index_or};
-ghost use Rattle.mill_model.specs.Rank.{starts_class_in, same_order};
-ghost use Rattle.mill_model.specs.Tree.{next_new, last_number, may_go_on};
+ghost use Rattle.std.specs.Prelude.{◌≡◌, ◌<◌, ◌≤◌, ◌+◌, ◌&&◌, ◌||◌, IfOk, length, true};
+ghost use Rattle.std.specs.Prelude.{replicate, slice_index, slice_index_or, take};
 ghost use Rattle.mill_model.specs.Plan.{slab};
-ghost use Rattle.log_checker.specs.Groups.{joined, may_be, nothing_seen, IsSeen, AreGroups};
+ghost use Rattle.mill_model.specs.Rank.{starts_class_in, same_order};
+ghost use Rattle.mill_model.specs.Tree.{next_new, last_number, may_go_on, in_tree};
 ghost use Rattle.log_checker.specs.ByRules.{mill_by};
-ghost use Rattle.log_checker.specs.Agenda.{opened};
-ghost use Rattle.log_checker.specs.declared.agenda.Wanted.TheVariants.{Child};
-ghost use Rattle.mill_model.specs.declared.order.TheConstants.{MAX_ORDERS};
+ghost use Rattle.log_checker.specs.Groups.{joined, may_be, nothing_seen, IsSeen, AreGroups};
 
-use crate::agenda::Wanted;
-use crate::groups::Group;
+use crate::groups::{Group, join_at};
 use crate::rules::Rules;
 use mill_model::{Order, OutOfMemory};
 
@@ -44,7 +40,6 @@ fn last_number(path: &[u16]) -> u16
 
 /// Whether a group, or the next new one, stays legal with one more order.
 fn may_join(rules: &Rules, groups: &[Group], g: usize, order: Order) -> bool
-    requires { (slice_index_or groups.now g nothing_seen).load + order.weight < 2 ^ 64 }
     ensures { result ≡
         may_be (mill_by rules.now) (joined (slice_index_or groups.now g nothing_seen) order) }
 {
@@ -59,7 +54,6 @@ fn may_join(rules: &Rules, groups: &[Group], g: usize, order: Order) -> bool
 pub(crate) fn may_go_on(rules: &Rules, groups: &[Group], path: &[u16], g: u16) -> bool
     requires seen { IsSeen (slice_index_or groups.now g nothing_seen)
         (slab g path.now rules.now.ranked.items) }
-    requires light { (slice_index_or groups.now g nothing_seen).load ≤ MAX_ORDERS * 1000000 }
     requires within { length path.now < length rules.now.ranked.items }
     requires near { g ≤ next_new path.now }
     ensures { result ≡ may_go_on (mill_by rules.now) rules.now.ranked.items path.now g }
@@ -68,47 +62,46 @@ pub(crate) fn may_go_on(rules: &Rules, groups: &[Group], path: &[u16], g: u16) -
         && (starts_class(rules, path.len()) || last_number(path) <= g)
 }
 
-/// Lets a child of a record's path wait, if it is in the tree.
-fn open_child(
-    waiting: &mut Vec<Wanted>,
-    rules: &Rules,
-    groups: &[Group],
-    path: &[u16],
-    parent: usize,
-    group: u16,
-) -> Result<(), OutOfMemory>
-    requires groups { AreGroups groups.now path.now rules.now.ranked.items }
-    requires within { length path.now < length rules.now.ranked.items }
-    requires near { group ≤ next_new path.now }
-    ensures { OnOk result (waiting.new.items ≡ waiting.old.items
-        ++ cond (may_go_on (mill_by rules.now) rules.now.ranked.items path.now group)
-        (Child parent group ∷ []) []) }
+/// Whether the first `k` numbers of a path, of which `count` is the next new one, may go on with
+/// the next.
+fn goes_on_at(rules: &Rules, groups: &[Group], path: &[u16], k: usize, count: usize) -> bool
+    requires here { k < length path.now }
+    requires within { length path.now ≤ length rules.now.ranked.items }
+    requires seen { IsSeen (slice_index_or groups.now (slice_index path.now k) nothing_seen)
+        (slab (slice_index path.now k) (take k path.now) rules.now.ranked.items) }
+    requires count { count ≡ next_new (take k path.now) }
+    ensures { result ≡ may_go_on (mill_by rules.now) rules.now.ranked.items (take k path.now)
+        (slice_index path.now k) }
 {
-    if may_go_on(rules, groups, path, group) {
-        waiting.push(Wanted::Child { parent, group })?;
+    let g = path[k];
+    if count < g as usize {
+        return false;
     }
-    Ok(())
+    may_go_on(rules, groups, &path[..k], g)
 }
 
-/// Lets the children of a record's path wait, the first of them last.
-pub(crate) fn open_children(
-    waiting: &mut Vec<Wanted>,
+/// Puts each order of a path into its group, as long as the path stays in the tree.
+pub(crate) fn goes_through(
+    groups: &mut [Group],
     rules: &Rules,
-    groups: &[Group],
     path: &[u16],
-    parent: usize,
-) -> Result<(), OutOfMemory>
-    requires groups { AreGroups groups.now path.now rules.now.ranked.items }
-    requires within { length path.now < length rules.now.ranked.items }
-    requires few { next_new path.now ≤ MAX_ORDERS }
-    ensures { OnOk result (waiting.new.items ≡ waiting.old.items
-        ++ opened (may_go_on (mill_by rules.now) rules.now.ranked.items path.now) parent
-        (next_new path.now + 1) (next_new path.now + 1)) }
+) -> Result<bool, OutOfMemory>
+    requires within { length path.now ≤ length rules.now.ranked.items }
+    requires empty { groups.old ≡ replicate (next_new path.now) nothing_seen }
+    ensures is { IfOk result (λ yes.
+        yes ≡ in_tree (mill_by rules.now) rules.now.ranked.items path.now) }
+    ensures groups { IfOk result (λ yes. yes ≡ true →
+        AreGroups groups.new path.now rules.now.ranked.items) }
 {
-    let top = groups.len() + 1;
-    for j in 0..top {
-        let group = (top - (j + 1)) as u16;
-        open_child(waiting, rules, groups, path, parent, group)?;
+    let mut count = 0usize;
+    for k in 0..path.len() {
+        let on = goes_on_at(rules, groups, path, k, count);
+        if !on {
+            return Ok(false);
+        }
+        let order = rules.order(k);
+        join_at(groups, path[k] as usize, order)?;
+        count = count.max(path[k] as usize + 1);
     }
-    Ok(())
+    Ok(true)
 }

@@ -7,6 +7,7 @@ use Rattle.std.specs.Int.{int_max}
 use Rattle.list_laws.proofs.Tests.{either}
 use Rattle.set_minima.specs.Packs.{better, with_price}
 use Rattle.set_minima.specs.Cells.{nothing, found, IsNear, IsSmall}
+use Rattle.set_minima.proofs.Tops.{max-is}
 
 abbrev floor : ℤ
 floor = neg_ℤ (pos 2305843009213693952)
@@ -84,9 +85,6 @@ near-plus n p x y (inl k) s =
     inl (omega (arith, ints, k.0, k.1, s.0, s.1), omega (arith, ints, k.0, k.1, s.0, s.1))
 near-plus n p x y (inr k) s =
     inr (omega (arith, ints, k.0, k.1, s.0, s.1), omega (arith, ints, k.0, k.1, s.0, s.1))
-
-max-is : (x y : ℤ) → (int_max x y ≡ x) ⊎ (int_max x y ≡ y)
-max-is x y = grind (arith, ints)
 
 pub near-max : (n : ℕ) (x y : ℤ) → IsNear n x → IsNear n y → IsNear n (int_max x y)
 near-max n x y h k = elim (max-is x y) [ inl e ↦ rw e h | inr e ↦ rw e k ]

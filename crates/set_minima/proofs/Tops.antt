@@ -13,7 +13,7 @@ none-some v e = absurd (cc)
 pub some-same : (v w : ℤ) → ◌≡◌ {A = Option ℤ} (Some v) (Some w) → v ≡ w
 some-same v w e = cc
 
-max-is : (x z : ℤ) → (int_max x z ≡ x) ⊎ (int_max x z ≡ z)
+pub max-is : (x z : ℤ) → (int_max x z ≡ x) ⊎ (int_max x z ≡ z)
 max-is x z = grind (arith, ints)
 
 above-left : (x z v a : ℤ) → v ≡ int_max x z → a ≤ℤ x → a ≤ℤ v

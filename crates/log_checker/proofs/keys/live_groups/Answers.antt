@@ -1,9 +1,9 @@
-use Rattle.std.proofs.Common.{◌∙◌, ◌++◌, ◌∷◌, [], sym, ap, ap₂, drop, map, filter, get_or, ℕ, Bool}
+use Rattle.std.proofs.Common.{◌∙◌, ◌++◌, ◌∷◌, [], sym, ap, ap₂, map, filter, ℕ, Bool}
 use Rattle.std.proofs.Common.{cond, append-nil, subst, All}
 use Rattle.std.proofs.lemmas.List.{map-append}
 use Rattle.std.proofs.lemmas.List.Elements.{All-push}
 use Rattle.list_laws.specs.Sets.{below}
-use Rattle.log_checker.specs.Groups.{nothing_seen}
+use Rattle.log_checker.specs.PathGroups.{group_of, later}
 use Rattle.log_checker.specs.ByRules.{mill_by}
 use Rattle.log_checker.specs.Keys.{IsKey, group_in}
 use Rattle.log_checker.specs.Live.{lives}
@@ -14,10 +14,10 @@ use Rattle.log_checker.proofs.keys.live_groups.Goals.{in-Some+in_ok-push-in-Some
 
 pub loop-g-preserved : goal.loop-g-preserved
 loop-g-preserved c =
-    let p : ℕ → Bool = λ g. lives (mill_by c.args.rules.now)
-    (drop c.args.k c.args.rules.now.ranked.items) (get_or c.args.groups.now g nothing_seen) in
-    let has : LiveGroup → Type 0 = λ live. IsKey (drop c.args.k c.args.rules.now.ranked.items)
-    (get_or c.args.groups.now live.group nothing_seen) live.key in
+    let p : ℕ → Bool = λ g. lives (mill_by c.args.path.now.rules.now)
+    (later c.args.path.now) (group_of c.args.path.now g) in
+    let has : LiveGroup → Type 0 = λ live. IsKey (later c.args.path.now)
+    (group_of c.args.path.now live.group) live.key in
     elim c.match-live_group.branch [
       | in-Some+in_ok-push-in-Some w ↦ (let e = ap (λ v. v.items) w.live-is
           ∙ w.in_ok-push-in-Some.ensures.items in
@@ -29,8 +29,8 @@ loop-g-preserved c =
                 ∙ ap (λ b. filter p (below c.loop-g.g) ++ cond b (c.loop-g.g ∷ []) []) (sym s.2)
                 ∙ sym (below-push p c.loop-g.g);
             keys = subst (All has) (sym e) (All-push has c.loop-g.live.items w.in-Some.group
-                c.loop-g.invariant.keys (subst (λ g. IsKey (drop c.args.k
-                c.args.rules.now.ranked.items) (get_or c.args.groups.now g nothing_seen)
+                c.loop-g.invariant.keys
+                (subst (λ g. IsKey (later c.args.path.now) (group_of c.args.path.now g)
                 w.in-Some.group.key) (sym s.0) s.1));
           })
       | in-None w ↦ (let e = ap (λ v. v.items) w.live-is in

@@ -1,6 +1,6 @@
-use Rattle.std.proofs.Common.{◌≡◌, All, drop, filter, map, slice_index_or}
+use Rattle.std.proofs.Common.{◌≡◌, All, filter, map}
 use Rattle.list_laws.specs.Sets.{below}
-use Rattle.log_checker.specs.Groups.{nothing_seen}
+use Rattle.log_checker.specs.PathGroups.{group_of, later}
 use Rattle.log_checker.specs.Live.{lives}
 use Rattle.log_checker.specs.ByRules.{mill_by}
 use Rattle.log_checker.specs.Keys.{IsKey, group_in}
@@ -9,8 +9,8 @@ use Rattle.log_checker.proofs.keys.live_groups.Given as goal
 abbrev pub invariant-loop-g : goal.invariant-loop-g
 invariant-loop-g l = record {
   numbers :
-      map group_in l.live.items ≡ filter (λ g. lives (mill_by l.rules)
-      (drop l.k l.rules.ranked.items) (slice_index_or l.groups g nothing_seen)) (below l.g);
-  keys : All (λ live. IsKey (drop l.k l.rules.ranked.items)
-      (slice_index_or l.groups live.group nothing_seen) live.key) l.live.items;
+      map group_in l.live.items ≡ filter (λ g. lives (mill_by l.path.rules.now)
+      (later l.path) (group_of l.path g)) (below l.g);
+  keys : All (λ live. IsKey (later l.path)
+      (group_of l.path live.group) live.key) l.live.items;
 }

@@ -13,12 +13,12 @@ use Rattle.mill_model.specs.Limits.{IsPrice}
 use Rattle.mill_model.specs.Plan.{slab}
 use Rattle.mill_model.specs.Prices.{least_slack}
 use Rattle.order_symmetry.specs.Ranked.{orders_of}
-use Rattle.set_minima.specs.Cells.{IsSmall}
+use Rattle.set_minima.specs.Cells.{IsSmall, slack_limit}
 use Rattle.split_tree.specs.Node.{Node}
 use Rattle.column_price.specs.Nodes.{AreSlacks, rest_of, worth_at}
 
 -- a price is as small as a slack
-pub small-price : (y : ℤ) → IsPrice y → IsSmall 30000000000000 y
+pub small-price : (y : ℤ) → IsPrice y → IsSmall slack_limit y
 small-price y p = (omega (arith, ints, p.0, p.1), omega (arith, ints, p.0, p.1))
 
 sum-push : (xs : List ℤ) (z : ℤ) → int_sum (xs ++ z ∷ []) ≡ int_sum xs +ℤ z

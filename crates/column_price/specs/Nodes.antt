@@ -7,7 +7,7 @@ use Rattle.mill_model.specs.Bounds.{ascent_prices, swept}
 use Rattle.mill_model.specs.Tree.{later_orders, next_new}
 use Rattle.mill_model.specs.declared.order.Order.{Order}
 use Rattle.order_symmetry.specs.Ranked.{orders_of}
-use Rattle.set_minima.specs.Cells.{IsSmall}
+use Rattle.set_minima.specs.Cells.{IsSmall, slack_limit}
 use Rattle.knap_bound.specs.Later.{Later, later_from}
 use Rattle.knap_bound.specs.Knapsacks.{IsLater}
 use Rattle.split_tree.specs.Node.{Node, IsNode, group_of}
@@ -73,7 +73,7 @@ pub record AreSlacks (node : Node) (charge : ℕ → ℕ) (prices slacks : List 
   pub each :
       (g : ℕ) → g < length slacks → slice_index_or slacks g (pos 0)
       ≡ least_slack node.ranked.mill charge (group_of node g) (rest_of node) prices
-  pub small : All (IsSmall 30000000000000) slacks
+  pub small : All (IsSmall slack_limit) slacks
 
 -- the least slack of each group under a pricing's prices, which are valid
 pub record AreValidSlacks (pricing : Pricing) (slacks : List ℤ) : Type 0 where

@@ -6,7 +6,7 @@ ghost use Rattle.list_laws.specs.Sets.{int_sum};
 ghost use Rattle.mill_model.specs.Bounds.{or_zero};
 ghost use Rattle.mill_model.specs.Limits.{IsPrice};
 ghost use Rattle.mill_model.specs.declared.order.TheConstants.{MAX_ORDERS};
-ghost use Rattle.set_minima.specs.Cells.{IsSmall};
+ghost use Rattle.set_minima.specs.Cells.{IsSmall, slack_limit};
 ghost use Rattle.column_price.specs.Numbers.{lesser, less, is_negative};
 
 /// The lesser of two numbers, where there are any.
@@ -22,8 +22,8 @@ pub(crate) fn lesser_of(a: Option<i64>, b: Option<i64>) -> Option<i64>
 
 /// A number, if there is one, less another.
 pub(crate) fn less_by(a: Option<i64>, z: i64) -> Option<i64>
-    requires small { IfSome a (IsSmall 30000000000000) }
-    requires less { IsSmall 30000000000000 z }
+    requires small { IfSome a (IsSmall slack_limit) }
+    requires less { IsSmall slack_limit z }
     ensures { result ≡ less z a }
 {
     match a {
@@ -55,7 +55,7 @@ pub(crate) fn is_zero(a: Option<i64>) -> bool
 
 /// Whether the number, if there is one, less a price is above another.
 pub(crate) fn is_above(a: Option<i64>, price: i64, low: i64) -> bool
-    requires small { IfSome a (IsSmall 30000000000000) }
+    requires small { IfSome a (IsSmall slack_limit) }
     requires price { IsPrice price }
     ensures { result ≡ true → (x : ℤ) → a ≡ Some x → low <ℤ (x -ℤ price) }
 {
@@ -78,7 +78,7 @@ pub(crate) fn is_below_zero(a: Option<i64>) -> bool
 /// The sum of some numbers.
 pub(crate) fn sum_of(numbers: &[i64]) -> i64
     requires few { length numbers.now ≤ MAX_ORDERS }
-    requires small { All (IsSmall 30000000000000) numbers.now }
+    requires small { All (IsSmall slack_limit) numbers.now }
     ensures is { result ≡ int_sum numbers.now }
     ensures small { IsSmall 30720000000000000 result }
 {

@@ -8,7 +8,7 @@ ghost use Rattle.mill_model.specs.Charges.{Reaches, charge_of};
 ghost use Rattle.mill_model.specs.Limits.{IsPrice};
 ghost use Rattle.mill_model.specs.Prices.{least_slack};
 ghost use Rattle.mill_model.specs.Tree.{next_new};
-ghost use Rattle.set_minima.specs.Cells.{IsSmall};
+ghost use Rattle.set_minima.specs.Cells.{IsSmall, slack_limit};
 ghost use Rattle.split_tree.specs.Node.{group_of};
 ghost use Rattle.column_price.specs.Nodes.{IsPricing, AreFor, AreSlacks, rest_of, with_prices};
 
@@ -137,7 +137,7 @@ impl<'a, 'b> LeastSlacks<'a, 'b> {
         requires here { i < length self.old.prices }
         ensures is { result ≡ least_new_with self.old.node.ranked.mill
             (charge_of self.old.charges) (rest_of self.old.node) self.old.prices i }
-        ensures small { IfSome result (IsSmall 30000000000000) }
+        ensures small { IfSome result (IsSmall slack_limit) }
         ensures pricing { IsPricing self.old }
         ensures kept { self.new ≡ self.old }
     {
@@ -151,7 +151,7 @@ impl<'a, 'b> LeastSlacks<'a, 'b> {
         requires here { i < length self.old.prices }
         ensures is { result ≡ least_on_with self.old.node.ranked.mill (charge_of self.old.charges)
             (group_of self.old.node g) (rest_of self.old.node) self.old.prices i }
-        ensures small { IfSome result (IsSmall 30000000000000) }
+        ensures small { IfSome result (IsSmall slack_limit) }
         ensures pricing { IsPricing self.old }
         ensures kept { self.new ≡ self.old }
     {
@@ -165,7 +165,7 @@ impl<'a, 'b> LeastSlacks<'a, 'b> {
         ensures is { result ≡ least_on_without self.old.node.ranked.mill
             (charge_of self.old.charges) (group_of self.old.node g) (rest_of self.old.node)
             self.old.prices i }
-        ensures small { IfSome result (IsSmall 30000000000000) }
+        ensures small { IfSome result (IsSmall slack_limit) }
         ensures kept { self.new ≡ self.old }
     {
         let groups = self.node.groups();
@@ -177,7 +177,7 @@ impl<'a, 'b> LeastSlacks<'a, 'b> {
         requires group { g < next_new self.old.node.path }
         ensures is { result ≡ least_slack self.old.node.ranked.mill (charge_of self.old.charges)
             (group_of self.old.node g) (rest_of self.old.node) self.old.prices }
-        ensures small { IsSmall 30000000000000 result }
+        ensures small { IsSmall slack_limit result }
         ensures kept { self.new ≡ self.old }
     {
         let groups = self.node.groups();

@@ -9,7 +9,7 @@ ghost use Rattle.mill_model.specs.Limits.{IsPrice};
 ghost use Rattle.mill_model.specs.Prices.{least_slack};
 ghost use Rattle.mill_model.specs.Tree.{next_new};
 ghost use Rattle.order_symmetry.specs.Ranked.{orders_of};
-ghost use Rattle.set_minima.specs.Cells.{IsSmall};
+ghost use Rattle.set_minima.specs.Cells.{IsSmall, slack_limit};
 ghost use Rattle.split_tree.specs.Node.{group_of};
 ghost use Rattle.column_price.specs.Nodes.{AreSlacks, EachIsLight, are_valid, rest_of, swept_at};
 ghost use Rattle.column_price.specs.Nodes.{IsPricing, with_prices};
@@ -40,7 +40,7 @@ fn cost_of_joining(
     requires here { i < length slacks.old.prices }
     requires zero { slacks.old.prices ≡ set slacks.old.prices i (pos 0) }
     requires old { IsPrice old }
-    requires small { IsSmall 30000000000000 slack }
+    requires small { IsSmall slack_limit slack }
     requires slack { slack ≡ least_slack slacks.old.node.ranked.mill
         (charge_of slacks.old.charges) (group_of slacks.old.node g) (rest_of slacks.old.node)
         (set slacks.old.prices i old) }
@@ -50,7 +50,7 @@ fn cost_of_joining(
     ensures cost { result.cost ≡ less result.without
         (least_on_with slacks.old.node.ranked.mill (charge_of slacks.old.charges)
         (group_of slacks.old.node g) (rest_of slacks.old.node) slacks.old.prices i) }
-    ensures small { IsSmall 30000000000000 result.without }
+    ensures small { IsSmall slack_limit result.without }
     ensures kept { slacks.new ≡ slacks.old }
 {
     let held = slacks.on_group_with(g, i);

@@ -22,7 +22,7 @@ use Rattle.mill_model.specs.declared.order.TheConstants.{MAX_ORDERS}
 use Rattle.mill_model.specs.declared.prices.TheConstants.{MAX_PRICE}
 use Rattle.set_minima.specs.Packs.{IsTop, colours_in, nobody, with_price}
 use Rattle.set_minima.specs.Joins.{gain, Joins, AreOrders, all_places, all_but, opposite}
-use Rattle.set_minima.specs.Cells.{found, IsNear, IsSmall, ArePrices}
+use Rattle.set_minima.specs.Cells.{found, IsNear, IsSmall, ArePrices, slack_limit}
 use Rattle.set_minima.proofs.CellNumbers.{found-plus}
 use Rattle.set_minima.proofs.Gains.{gain-within}
 use Rattle.set_minima.proofs.Places.{in-set-below}
@@ -156,19 +156,19 @@ pub known-least : (least best : ℤ) → found best ≡ Some best → Some least
     neg_ℤ best ≡ least
 known-least least best e h = let q : Some least ≡ Some (neg_ℤ best) = rw e at h in cc
 
-pub small-wider : (v : ℤ) → IsSmall 20600000000000 v → IsSmall 30000000000000 v
+pub small-wider : (v : ℤ) → IsSmall 20600000000000 v → IsSmall slack_limit v
 small-wider v s = (omega (arith, ints, s.0, s.1), omega (arith, ints, s.0, s.1))
 
 -- a greatest gain with one price more stands for a set where it did without, and isn't large
 pub priced-small : (gain price : ℤ) → IsNear 576460752303423488 gain → IsSmall MAX_PRICE price →
     ((v : ℤ) → found gain ≡ Some v → IsSmall 20600000000000 v) → (v : ℤ) →
-    found (gain +ℤ price) ≡ Some v → IsSmall 30000000000000 v
+    found (gain +ℤ price) ≡ Some v → IsSmall slack_limit v
 priced-small gain price near small h v e =
     let plus : found (gain +ℤ price) ≡ with_price price (found gain) =
     found-plus 576460752303423488 MAX_PRICE gain price (omega arith) near small in
     go (found gain) refl (sym plus ∙ e)
   where
-    go : (b : Option ℤ) → found gain ≡ b → with_price price b ≡ Some v → IsSmall 30000000000000 v
+    go : (b : Option ℤ) → found gain ≡ b → with_price price b ≡ Some v → IsSmall slack_limit v
     go None q e = none-some v e
     go (Some x) q e =
         let s : IsSmall 20600000000000 x = h x q in

@@ -13,7 +13,7 @@ ghost use Rattle.slab_rules.specs.OpenSlab.{Carries, IsWithinBounds, joined};
 ghost use Rattle.mill_model.specs.declared.prices.TheConstants.{MAX_PRICE};
 ghost use Rattle.set_minima.specs.Packs.{IsTop, nobody, with_price};
 ghost use Rattle.set_minima.specs.Joins.{gain, Joins, all_but, opposite};
-ghost use Rattle.set_minima.specs.Cells.{found, IsNear, IsSmall};
+ghost use Rattle.set_minima.specs.Cells.{found, IsNear, IsSmall, slack_limit};
 ghost use Rattle.knap_bound.specs.Later.{later_from};
 ghost use Rattle.knap_bound.specs.Knapsacks.{IsLater};
 
@@ -101,7 +101,7 @@ fn least_with(gain: i64, price: i64) -> Option<i64>
     requires price { IsSmall MAX_PRICE price }
     ensures is { result ≡ opposite (with_price price (found gain)) }
     ensures small { ((v : ℤ) → found gain ≡ Some v → IsSmall 20600000000000 v) →
-        IfSome result (IsSmall 30000000000000) }
+        IfSome result (IsSmall slack_limit) }
 {
     least_of(gain + price)
 }
@@ -235,7 +235,7 @@ impl<'a> Knapsack<'a> {
         requires priced { All IsPrice prices.now }
         ensures is { result
             ≡ least_new self.old.mill (charge_of self.old.charges) self.old.orders prices.now }
-        ensures small { IfSome result (IsSmall 30000000000000) }
+        ensures small { IfSome result (IsSmall slack_limit) }
         ensures kept { self.new ≡ self.old }
     {
         let none: [u16; 0] = [];
@@ -250,7 +250,7 @@ impl<'a> Knapsack<'a> {
         requires here { i < length self.old.orders }
         ensures is { result ≡ least_new_with self.old.mill (charge_of self.old.charges)
             self.old.orders prices.now i }
-        ensures small { IfSome result (IsSmall 30000000000000) }
+        ensures small { IfSome result (IsSmall slack_limit) }
         ensures kept { self.new ≡ self.old }
     {
         let order = self.order(i);
@@ -271,7 +271,7 @@ impl<'a> Knapsack<'a> {
         ensures is { (group : List Order) → Carries slab.now group →
             result ≡ least_slack self.old.mill (charge_of self.old.charges) group
             self.old.orders prices.now }
-        ensures small { IsSmall 30000000000000 result }
+        ensures small { IsSmall slack_limit result }
         ensures kept { self.new ≡ self.old }
     {
         let skip = self.len();
@@ -288,7 +288,7 @@ impl<'a> Knapsack<'a> {
         ensures is { (group : List Order) → Carries slab.now group →
             result ≡ least_on_with self.old.mill (charge_of self.old.charges) group
             self.old.orders prices.now i }
-        ensures small { IfSome result (IsSmall 30000000000000) }
+        ensures small { IfSome result (IsSmall slack_limit) }
         ensures kept { self.new ≡ self.old }
     {
         let order = self.order(i);
@@ -308,7 +308,7 @@ impl<'a> Knapsack<'a> {
         ensures is { (group : List Order) → Carries slab.now group →
             result ≡ least_on_without self.old.mill (charge_of self.old.charges) group
             self.old.orders prices.now i }
-        ensures small { IfSome result (IsSmall 30000000000000) }
+        ensures small { IfSome result (IsSmall slack_limit) }
         ensures kept { self.new ≡ self.old }
     {
         least_of(self.gain_on(slab, prices, i))

@@ -13,7 +13,7 @@ use Rattle.set_minima.specs.Joins.{IsSlab}
 use Rattle.std.specs.List.{All}
 use Rattle.set_minima.specs.Packs.{IsBest, colour_at}
 use Rattle.set_minima.proofs.OneOrder.{best-allowed}
-use Rattle.set_minima.specs.Cells.{cell, found, IsSmall, IsNear, AreNear, AreNearTo}
+use Rattle.set_minima.specs.Cells.{cell, found, IsSmall, IsNear, AreNear, AreNearTo, slack_limit}
 use Rattle.least_slacks.specs.Later.{AreLayersOf, others_of}
 use Rattle.least_slacks.specs.Parts.{IsFilled, IsFor, NameTheSame, drift, out_of}
 use Rattle.least_slacks.specs.declared.later_orders.LaterOrders.{LaterOrders}
@@ -40,14 +40,14 @@ module _ (limits : SlabLimits) (rest : List Order) (prices : List ℤ) (low high
         long = omega (arith, both, all, first.long, second.long);
         small = λ i h own has. elim (cases_lt i (length low)) [
           | inl l ↦ (let n : i < length a = omega (arith, first.long) in
-              subst (λ x. IsSmall 30000000000000 x)
+              subst (λ x. IsSmall slack_limit x)
               (sym (get_or_append_left a b (pos 0) i n)) (first.small i l own
               (subst (λ (key : Key). HasColours rest key own)
               (get_or_append_left low high no_key i l) has)))
           | inr l ↦ (let j = i - length low in
               let e : length low + j ≡ i = omega arith in
               let f : length a + j ≡ i = omega (arith, first.long) in
-              subst (λ x. IsSmall 30000000000000 x) (sym (behind a b i j (pos 0) f))
+              subst (λ x. IsSmall slack_limit x) (sym (behind a b i j (pos 0) f))
               (second.small j (omega (arith, both)) own
               (subst (λ (key : Key). HasColours rest key own) (behind low high i j no_key e)
               has)))

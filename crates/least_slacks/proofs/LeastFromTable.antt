@@ -17,7 +17,7 @@ use Rattle.set_minima.proofs.Least.{on-is}
 use Rattle.mill_model.specs.declared.prices.TheConstants.{MAX_PRICE}
 use Rattle.mill_model.specs.declared.order.TheConstants.{MAX_ORDERS}
 use Rattle.mill_model.specs.declared.charges.TheConstants.{MAX_CHARGE}
-use Rattle.set_minima.specs.Cells.{found, IsSmall, ArePrices}
+use Rattle.set_minima.specs.Cells.{found, IsSmall, ArePrices, slack_limit}
 
 -- each charge is small, also past the last one
 charge-small : (charges : List ℕ) → All (λ charge. charge ≤ MAX_CHARGE) charges → (l : ℕ) →
@@ -67,12 +67,12 @@ module _ (rest : List Order) (prices : List ℤ) (charges own : List ℕ) (load 
 
   -- it is the gain of a set, and so not large
   pub small-from : length prices ≤ MAX_ORDERS → ArePrices prices →
-      All (λ charge. charge ≤ MAX_CHARGE) charges → IsSmall 30000000000000 (neg_ℤ best)
+      All (λ charge. charge ≤ MAX_CHARGE) charges → IsSmall slack_limit (neg_ℤ best)
   small-from n priced small =
       go (int_lt best (neg_ℤ (pos 2305843009213693952))) refl
     where
       go : (b : Bool) → int_lt best (neg_ℤ (pos 2305843009213693952)) ≡ b →
-          IsSmall 30000000000000 (neg_ℤ best)
+          IsSmall slack_limit (neg_ℤ best)
       go true q = absurd (top.none (rw q) (nothing (length rest)) none-joins)
       go false q =
           let s = top.some best (rw q) in
@@ -82,5 +82,5 @@ module _ (rest : List Order) (prices : List ℤ) (charges own : List ℕ) (load 
         where
           within : (n : ℕ) (b g : ℤ) → b ≡ g → n ≤ MAX_ORDERS →
               neg_ℤ (pos (n * MAX_PRICE + 60 * MAX_CHARGE)) ≤ℤ g →
-              g ≤ℤ pos (n * MAX_PRICE + 60 * MAX_CHARGE) → IsSmall 30000000000000 (neg_ℤ b)
+              g ≤ℤ pos (n * MAX_PRICE + 60 * MAX_CHARGE) → IsSmall slack_limit (neg_ℤ b)
           within n b g e l lo hi = (omega (arith, ints), omega (arith, ints))

@@ -13,7 +13,7 @@ use Rattle.mill_model.specs.declared.order.Order.{Order}
 use Rattle.set_minima.specs.Packs.{colour_at, nobody}
 use Rattle.set_minima.specs.Joins.{IsSlab}
 use Rattle.set_minima.proofs.Groups.{valid-least}
-use Rattle.set_minima.specs.Cells.{IsSmall}
+use Rattle.set_minima.specs.Cells.{IsSmall, slack_limit}
 use Rattle.least_slacks.specs.Keys.{AreLeast, HasColours, new_slab, no_key}
 use Rattle.least_slacks.specs.Limits.{mill_within}
 use Rattle.least_slacks.specs.declared.key.Key.{Key}
@@ -43,7 +43,7 @@ module _ (limits : SlabLimits) (rest : List Order) (prices : List ℤ) (keys : L
       record {
         long = omega (arith, n, t);
         small = λ i h own has.
-            subst (λ x. IsSmall 30000000000000 x)
+            subst (λ x. IsSmall slack_limit x)
             (sym (get_or-take (length keys) slacks i (pos 0) h))
             (all.small i (omega (arith, both)) own
             (subst (λ (key : Key). HasColours rest key own)

@@ -6,7 +6,7 @@ use Rattle.list_laws.specs.Sets.{holds, different}
 use Rattle.mill_model.specs.declared.order.Order.{Order}
 use Rattle.set_minima.specs.Packs.{colour_at}
 use Rattle.set_minima.specs.Joins.{all_places, IsSlab}
-use Rattle.set_minima.specs.Cells.{cell, AreNearTo, IsSmall}
+use Rattle.set_minima.specs.Cells.{cell, AreNearTo, IsSmall, slack_limit}
 use Rattle.least_slacks.specs.Limits.{mill_within}
 use Rattle.least_slacks.specs.Later.{IsTableOf, HaveSame}
 use Rattle.least_slacks.specs.declared.key.Key.{Key}
@@ -40,7 +40,7 @@ pub record AreLeast (limits : SlabLimits) (rest : List Order) (prices : List ℤ
   pub small :
       (i : ℕ) → i < length keys → (own : List ℕ) →
       HasColours rest (slice_index_or keys i no_key) own →
-      IsSmall 30000000000000 (slice_index_or slacks i (pos 0))
+      IsSmall slack_limit (slice_index_or slacks i (pos 0))
   pub least :
       (i : ℕ) → i < length keys → (own : List ℕ) (group : List Order) →
       HasColours rest (slice_index_or keys i no_key) own →

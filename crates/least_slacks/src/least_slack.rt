@@ -7,7 +7,7 @@ ghost use Rattle.mill_model.specs.Slab.{load};
 ghost use Rattle.mill_model.specs.declared.order.Order.{Order};
 ghost use Rattle.set_minima.specs.Packs.{IsTable, IsTop};
 ghost use Rattle.set_minima.specs.Joins.{gain, Packed, Joins, IsSlab, all_places};
-ghost use Rattle.set_minima.specs.Cells.{cell, found, AreNear, AreNearTo, IsNear, IsSmall};
+ghost use Rattle.set_minima.specs.Cells.{cell, found, AreNear, AreNearTo, IsNear, IsSmall, slack_limit};
 ghost use Rattle.mill_model.specs.Instance.{IsOrder};
 ghost use Rattle.mill_model.specs.Limits.{IsPrice};
 ghost use Rattle.mill_model.specs.Prices.{least_slack, valid};
@@ -144,7 +144,7 @@ fn slack_from(
     requires enough { suc limits.now.largest ≤ base + room ⊎ load later.now.rest.now < room }
     ensures is { (own : List ℕ) → different own ≤ limits.now.most →
         IsTableOf later.now all_places own limits.now.most room (cell one.now) →
-        (IsSmall 30000000000000 result) × ((group : List Order) → IsSlab group base own →
+        (IsSmall slack_limit result) × ((group : List Order) → IsSlab group base own →
         result ≡ least_slack (mill_within limits.now) (λ l. slice_index limits.now.charges.now l)
         group later.now.rest.now later.now.prices.now) }
 {
@@ -243,7 +243,7 @@ fn slack_of(
     requires few { key.colours ≤ limits.now.most }
     ensures joined { IsJoined later.now limits.now.most result.1 one.new }
     ensures is { (own : List ℕ) → HasColours later.now.rest.now key own →
-        (IsSmall 30000000000000 result.0) × ((group : List Order) → IsSlab group key.load own →
+        (IsSmall slack_limit result.0) × ((group : List Order) → IsSlab group key.load own →
         result.0 ≡ least_slack (mill_within limits.now)
         (λ l. slice_index limits.now.charges.now l) group later.now.rest.now
         later.now.prices.now) }

@@ -2,7 +2,7 @@
 use Rattle.std.specs.Prelude.{ℕ, ℤ, ◌<◌, ◌≡◌, All, List, [], length, slice_index_or, pos}
 use Rattle.mill_model.specs.Plan.{slab}
 use Rattle.mill_model.specs.Prices.{least_slack}
-use Rattle.set_minima.specs.Cells.{IsSmall}
+use Rattle.set_minima.specs.Cells.{IsSmall, slack_limit}
 use Rattle.log_checker.specs.ByRules.{mill_by, charge_by}
 use Rattle.log_checker.specs.PathGroups.{later}
 use Rattle.log_checker.specs.declared.grouped_path.GroupedPath.{GroupedPath}
@@ -19,7 +19,7 @@ slack_of its prices g =
 
 -- what each live group has, in their order
 pub record AreLiveSlacks (slack : ℕ → ℤ) (live : List LiveGroup) (slacks : List ℤ) : Type 0 where
-  pub small : (i : ℕ) → i < length live → IsSmall 30000000000000 (slice_index_or slacks i (pos 0))
+  pub small : (i : ℕ) → i < length live → IsSmall slack_limit (slice_index_or slacks i (pos 0))
   pub each :
       (i : ℕ) → i < length live →
       slice_index_or slacks i (pos 0) ≡ slack (slice_index_or live i no_live).group
@@ -27,5 +27,5 @@ pub record AreLiveSlacks (slack : ℕ → ℤ) (live : List LiveGroup) (slacks :
 -- what each of some groups has at its number
 pub record AreSlacks (count : ℕ) (slack : ℕ → ℤ) (slacks : List ℤ) : Type 0 where
   pub long : length slacks ≡ count
-  pub small : All (IsSmall 30000000000000) slacks
+  pub small : All (IsSmall slack_limit) slacks
   pub each : (g : ℕ) → g < count → slice_index_or slacks g (pos 0) ≡ slack g

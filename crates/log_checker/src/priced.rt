@@ -8,7 +8,7 @@ ghost use Rattle.mill_model.specs.Log.{sound};
 ghost use Rattle.mill_model.specs.Tree.{next_new};
 ghost use Rattle.mill_model.specs.declared.closing.Closing.TheVariants.{Priced};
 ghost use Rattle.mill_model.specs.declared.order.TheConstants.{MAX_ORDERS};
-ghost use Rattle.set_minima.specs.Cells.{IsSmall};
+ghost use Rattle.set_minima.specs.Cells.{IsSmall, slack_limit};
 ghost use Rattle.least_slacks.specs.Keys.{HasRoom};
 ghost use Rattle.log_checker.specs.ByRules.{mill_by, task_by, charge_by};
 ghost use Rattle.log_checker.specs.Keys.{AreSorted, key_in};
@@ -40,7 +40,7 @@ fn set_slack(slacks: &mut Vec<i64>, g: usize, slack: i64)
 /// What each group is charged, 60 times.
 fn charges_of(alloc: Global, path: &GroupedPath) -> Result<Vec<i64>, OutOfMemory>
     ensures long { IfOk result (λ slacks. length slacks.items ≡ length path.now.groups.items) }
-    ensures small { IfOk result (λ slacks. All (IsSmall 30000000000000) slacks.items) }
+    ensures small { IfOk result (λ slacks. All (IsSmall slack_limit) slacks.items) }
     ensures each { IfOk result (λ slacks. (g : ℕ) → g < length path.now.groups.items →
         slice_index_or slacks.items g (pos 0)
         ≡ pos (60 * charge_by path.now.rules.now (group_of path.now g).load)) }
@@ -79,7 +79,7 @@ fn slacks_of(
 /// The sum of some numbers.
 fn sum_of(numbers: &[i64]) -> i64
     requires few { length numbers.now ≤ MAX_ORDERS }
-    requires small { All (IsSmall 30000000000000) numbers.now }
+    requires small { All (IsSmall slack_limit) numbers.now }
     ensures is { result ≡ int_sum numbers.now }
     ensures small { IsSmall 30720000000000000 result }
 {

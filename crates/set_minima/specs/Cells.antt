@@ -1,8 +1,7 @@
 -- The numbers of a table: the best prices of sets by load. A very low number stands where there is
 -- no set.
 use Rattle.std.specs.Prelude.{ℕ, ◌+◌, ◌*◌, ◌<◌, ◌⊎◌, Bool, cond, List, [], ℤ, pos, neg_ℤ, ◌-ℤ◌}
-use Rattle.std.specs.Prelude.{◌+ℤ◌}
-use Rattle.std.specs.Prelude.{◌≤ℤ◌, int_lt, Option, Some, None, slice_index_or}
+use Rattle.std.specs.Prelude.{◌+ℤ◌, ◌≤ℤ◌, int_lt, Option, Some, None, slice_index_or}
 use Rattle.mill_model.specs.declared.order.Order.{Order}
 use Rattle.mill_model.specs.declared.prices.TheConstants.{MAX_PRICE}
 use Rattle.set_minima.specs.Packs.{IsTable}
@@ -33,6 +32,10 @@ AreNearTo n stop table = (l : ℕ) → l < stop → IsNear n (slice_index_or tab
 -- a number lies between - n and n
 abbrev pub IsSmall : ℕ → ℤ → Type 0
 IsSmall n x = (neg_ℤ (pos n) ≤ℤ x) × (x ≤ℤ pos n)
+
+-- a least slack lies within it: 60 charges and the prices of all orders come to less
+abbrev pub slack_limit : ℕ
+slack_limit = 30000000000000
 
 abbrev pub ArePrices : List ℤ → Type 0
 ArePrices prices = (i : ℕ) → IsSmall MAX_PRICE (slice_index_or prices i (pos 0))

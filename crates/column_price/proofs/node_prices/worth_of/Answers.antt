@@ -4,7 +4,7 @@ use Rattle.std.proofs.lemmas.List.Elements.{All-weaker}
 use Rattle.mill_model.specs.Charges.{charge_of}
 use Rattle.mill_model.specs.Limits.{IsPrice}
 use Rattle.list_laws.specs.Sets.{int_sum}
-use Rattle.set_minima.specs.Cells.{IsSmall}
+use Rattle.set_minima.specs.Cells.{IsSmall, slack_limit}
 use Rattle.split_tree.proofs.Nodes.{few-groups}
 use Rattle.column_price.proofs.AtNode.{few-later}
 use Rattle.column_price.proofs.WorthSums.{worth-is, small-price}
@@ -30,8 +30,8 @@ sum_of-requires-2-clause-few c =
 
 pub sum_of-requires-2-clause-small : goal.sum_of-requires-2-clause-small
 sum_of-requires-2-clause-small c =
-    subst (All (IsSmall 30000000000000)) (sym c.prices-prices.ensures.is)
-    (All-weaker IsPrice (IsSmall 30000000000000) small-price c.args.slacks.now.prices
+    subst (All (IsSmall slack_limit)) (sym c.prices-prices.ensures.is)
+    (All-weaker IsPrice (IsSmall slack_limit) small-price c.args.slacks.now.prices
     c.prices-prices.ensures.kept.prices.within)
 
 pub returns : goal.returns

@@ -12,7 +12,7 @@ use Rattle.mill_model.specs.Prices.{least_slack}
 use Rattle.mill_model.specs.Tree.{next_new}
 use Rattle.mill_laws.proofs.Slacks.{set-back}
 use Rattle.order_symmetry.specs.Ranked.{orders_of}
-use Rattle.set_minima.specs.Cells.{IsSmall}
+use Rattle.set_minima.specs.Cells.{IsSmall, slack_limit}
 use Rattle.split_tree.specs.Node.{group_of}
 use Rattle.column_price.specs.Nodes.{Pricing, AreSlacks, rest_of, with_prices}
 use Rattle.column_price.specs.Numbers.{swept_numbers, lesser, less}
@@ -92,7 +92,7 @@ loop-g-preserved c =
       ];
       same = λ h l. get_or-set_other groups g h v (pos 0) (omega arith)
           ∙ c.loop-g.invariant.same h (omega arith);
-      small = All-set (IsSmall 30000000000000) groups g v joined.ensures.small
+      small = All-set (IsSmall slack_limit) groups g v joined.ensures.small
           c.loop-g.invariant.small;
     })
 

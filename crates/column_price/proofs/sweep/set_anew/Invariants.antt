@@ -1,7 +1,7 @@
 use Rattle.std.proofs.Common.{◌≡◌, ℕ, ◌<◌, ◌≤◌, All, pos, set, slice_index_or}
 use Rattle.mill_model.specs.Charges.{charge_of}
 use Rattle.mill_model.specs.Bounds.{least_of, least_on_without, or_zero}
-use Rattle.set_minima.specs.Cells.{IsSmall}
+use Rattle.set_minima.specs.Cells.{IsSmall, slack_limit}
 use Rattle.split_tree.specs.Node.{group_of}
 use Rattle.column_price.specs.Nodes.{rest_of, with_prices}
 use Rattle.column_price.specs.Numbers.{swept_numbers}
@@ -19,5 +19,5 @@ invariant-loop-g l = record {
       (set l.fn.slacks.prices l.i (pos 0)) l.i);
   same :
       (g : ℕ) → l.g ≤ g → slice_index_or l.groups g (pos 0) ≡ slice_index_or l.fn.groups g (pos 0);
-  small : All (IsSmall 30000000000000) l.groups;
+  small : All (IsSmall slack_limit) l.groups;
 }

@@ -7,7 +7,7 @@ use Rattle.std.proofs.lemmas.Bool.{cases_lt}
 use Rattle.mill_model.specs.Prices.{least_slack}
 use Rattle.mill_model.specs.declared.order.Order.{Order}
 use Rattle.set_minima.specs.Joins.{IsSlab}
-use Rattle.set_minima.specs.Cells.{IsSmall}
+use Rattle.set_minima.specs.Cells.{IsSmall, slack_limit}
 use Rattle.least_slacks.specs.Keys.{HasColours, no_key}
 use Rattle.least_slacks.specs.Limits.{mill_within}
 use Rattle.least_slacks.specs.declared.key.Key.{Key}
@@ -45,7 +45,7 @@ loop-i-preserved c =
     let here : i < length keys = c.loop-i-test.true in
     let f : SFits w64 c.slack_of-slack.result.0 = search rules in
     let its = subst (λ (key : Key). (own : List ℕ) → HasColours rest key own →
-    (IsSmall 30000000000000 c.slack_of-slack.result.0) ×
+    (IsSmall slack_limit c.slack_of-slack.result.0) ×
     ((group : List Order) → IsSlab group key.load own → c.slack_of-slack.result.0 ≡
     least_slack (mill_within c.args.limits.now)
     (λ l. slice_index c.args.limits.now.charges.now l) group rest prices))
@@ -53,7 +53,7 @@ loop-i-preserved c =
     simp to_z-of_z (record {
       joined = c.slack_of-slack.ensures.joined;
       done = one-more (λ j x. (own : List ℕ) → HasColours rest (get_or keys j no_key) own →
-          (IsSmall 30000000000000 x) ×
+          (IsSmall slack_limit x) ×
           ((group : List Order) → IsSlab group (get_or keys j no_key).load own → x ≡
           least_slack (mill_within c.args.limits.now)
           (λ l. slice_index c.args.limits.now.charges.now l) group rest prices))

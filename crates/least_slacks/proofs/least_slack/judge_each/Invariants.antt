@@ -2,7 +2,7 @@ use Rattle.std.proofs.Common.{◌≡◌, ℕ, List, ◌<◌, get_or, pos, slice_
 use Rattle.mill_model.specs.Prices.{least_slack}
 use Rattle.mill_model.specs.declared.order.Order.{Order}
 use Rattle.set_minima.specs.Joins.{IsSlab}
-use Rattle.set_minima.specs.Cells.{IsSmall}
+use Rattle.set_minima.specs.Cells.{IsSmall, slack_limit}
 use Rattle.least_slacks.specs.Keys.{HasColours, IsJoined, no_key}
 use Rattle.least_slacks.specs.Limits.{mill_within}
 use Rattle.least_slacks.proofs.least_slack.judge_each.Given as goal
@@ -13,7 +13,7 @@ invariant-loop-i l = record {
   done :
       (j : ℕ) → j < l.i → (own : List ℕ) →
       HasColours l.later.rest.now (get_or l.keys j no_key) own →
-      (IsSmall 30000000000000 (get_or l.slacks j (pos 0))) ×
+      (IsSmall slack_limit (get_or l.slacks j (pos 0))) ×
       ((group : List Order) → IsSlab group (get_or l.keys j no_key).load own →
       get_or l.slacks j (pos 0) ≡
       least_slack (mill_within l.limits) (λ k. slice_index l.limits.charges.now k) group

@@ -7,7 +7,7 @@ use Rattle.std.proofs.lemmas.List.{get_or-take, length-take, get_or_past}
 use Rattle.set_minima.specs.Packs.{IsTop, IsBest}
 use Rattle.set_minima.specs.Joins.{gain, Joins, Packed, all_places}
 use Rattle.set_minima.proofs.LeftOut.{joins-within}
-use Rattle.set_minima.specs.Cells.{found, IsSmall}
+use Rattle.set_minima.specs.Cells.{found, IsSmall, slack_limit}
 use Rattle.set_minima.proofs.CellNumbers.{turned}
 use Rattle.set_minima.proofs.LayersRaised.{near-zero}
 use Rattle.least_slacks.proofs.LeastFromTable.{least-from, small-from}
@@ -57,7 +57,7 @@ returns c = record {
       (gain (λ l. slice_index charges l) c.args.base rest prices) (found c.best_gain.result)) long
       packed) in
       let turn = turned c.best_gain.result c.best_gain.ensures.near in (
-        subst (λ z. IsSmall 30000000000000 z) (sym turn)
+        subst (λ z. IsSmall slack_limit z) (sym turn)
             (small-from rest prices charges own c.args.base c.args.limits.now.largest most
             c.best_gain.result fits few joins
             (omega (arith, c.requires.later.same, c.requires.later.few)) c.requires.later.priced

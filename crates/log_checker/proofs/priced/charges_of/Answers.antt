@@ -8,7 +8,7 @@ use Rattle.std.proofs.lemmas.List.{get_or_push, get_or_append_left}
 use Rattle.std.proofs.lemmas.List.Elements.{All-push}
 use Rattle.log_checker.specs.ByRules.{charge_by}
 use Rattle.log_checker.specs.PathGroups.{group_of}
-use Rattle.set_minima.specs.Cells.{IsSmall}
+use Rattle.set_minima.specs.Cells.{IsSmall, slack_limit}
 use Rattle.log_checker.proofs.priced.charges_of.Goals as goal
 
 pub loop-g-preserved : goal.loop-g-preserved
@@ -20,7 +20,7 @@ loop-g-preserved c =
     let long : length c.push.new.self.items ≡ c.loop-g.g + 1 =
     ap length items ∙ length-append c.loop-g.slacks.items (z ∷ [])
     ∙ ap (λ n. n + 1) c.loop-g.invariant.long in
-    let small : IsSmall 30000000000000 z = (
+    let small : IsSmall slack_limit z = (
       omega (arith, ints, is, c.charge_of.ensures.small),
       omega (
         arith,
@@ -35,8 +35,8 @@ loop-g-preserved c =
     is ∙ ap (λ n. pos (60 * n)) c.charge_of.ensures.is in
     record {
       long = long;
-      small = subst (All (IsSmall 30000000000000)) (sym items)
-          (All-push (IsSmall 30000000000000) c.loop-g.slacks.items z c.loop-g.invariant.small
+      small = subst (All (IsSmall slack_limit)) (sym items)
+          (All-push (IsSmall slack_limit) c.loop-g.slacks.items z c.loop-g.invariant.small
           small);
       each = λ g l. elim (cases_lt g c.loop-g.g) [
         | inl h ↦ ap (λ xs. get_or xs g (pos 0)) items

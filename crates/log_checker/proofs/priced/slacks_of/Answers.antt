@@ -4,7 +4,7 @@ use Rattle.std.proofs.Common.{◌≡◌, ◌<◌, ◌∙◌, ℕ, ℤ, length, g
 use Rattle.std.proofs.Common.{ap, ap₂, sym, subst, refl, All, SFits, w64, to_z, of_z, to_z-of_z}
 use Rattle.std.proofs.lemmas.List.{get_or_default, length-drop, length-set}
 use Rattle.std.proofs.lemmas.List.Elements.{All-set}
-use Rattle.set_minima.specs.Cells.{IsSmall}
+use Rattle.set_minima.specs.Cells.{IsSmall, slack_limit}
 use Rattle.log_checker.specs.ByRules.{mill_by}
 use Rattle.log_checker.specs.PathGroups.{later}
 use Rattle.log_checker.specs.Slacks.{slack_of, no_live}
@@ -53,7 +53,7 @@ loop-i-preserved c =
     (ap (λ (x : LiveGroup). x.group) (get_or_default live i _ no_live here)) bits in
     record {
       long = ap length set_is ∙ length-set c.loop-i.slacks.items h z ∙ c.loop-i.invariant.long;
-      small = subst (All (IsSmall 30000000000000)) (sym set_is) (All-set (IsSmall 30000000000000)
+      small = subst (All (IsSmall slack_limit)) (sym set_is) (All-set (IsSmall slack_limit)
           c.loop-i.slacks.items h z (c.requires.least.small i here) c.loop-i.invariant.small);
       each = slack-step (slack_of its c.args.prices.now) live c.loop-i.slacks.items
           c.set_slack.new.slacks.items i (length its.groups.items) h z here refl l.0

@@ -4,7 +4,7 @@ use Rattle.std.proofs.Common.{◌∙◌, sym, subst, length-append, SFits, w64, 
 use Rattle.std.proofs.lemmas.List.Elements.{All-push, All-same}
 use Rattle.mill_model.specs.Charges.{charge_of}
 use Rattle.mill_model.specs.Prices.{least_slack}
-use Rattle.set_minima.specs.Cells.{IsSmall}
+use Rattle.set_minima.specs.Cells.{IsSmall, slack_limit}
 use Rattle.split_tree.specs.Node.{group_of}
 use Rattle.column_price.specs.Nodes.{Pricing, rest_of}
 use Rattle.column_price.proofs.WorthSums.{push-each}
@@ -31,7 +31,7 @@ loop-g-preserved c =
           c.loop-g.invariant.each
           (subst (λ h. z ≡ least start h) (sym c.loop-g.invariant.count) is);
       small =
-          All-same (IsSmall 30000000000000) c.push.new.self.items (items ++ z ∷ []) e
-          (All-push (IsSmall 30000000000000) items z c.loop-g.invariant.small
+          All-same (IsSmall slack_limit) c.push.new.self.items (items ++ z ∷ []) e
+          (All-push (IsSmall slack_limit) items z c.loop-g.invariant.small
           c.on_group.ensures.small);
     }

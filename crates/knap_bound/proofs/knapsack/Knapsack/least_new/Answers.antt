@@ -2,7 +2,7 @@ use Rattle.std.proofs.Common.{◌∙◌, [], sym, subst, SFits, w64, to_z-of_z, 
 use Rattle.mill_model.specs.Charges.{charge_of}
 use Rattle.set_minima.specs.Packs.{IsTop}
 use Rattle.set_minima.specs.Joins.{gain, Joins, all_but}
-use Rattle.set_minima.specs.Cells.{found}
+use Rattle.set_minima.specs.Cells.{found, slack_limit}
 use Rattle.set_minima.proofs.Least.{new-is}
 use Rattle.knap_bound.proofs.SlabGains.{are-orders, are-prices, none-skipped, gain-small}
 use Rattle.knap_bound.proofs.SlabGains.{small-wider}
@@ -35,7 +35,7 @@ returns-clause-small c =
     let charge = charge_of now.charges in
     let best = found c.gain_beside.result in
     let f : SFits w64 c.gain_beside.result = search rules in
-    let s = simp to_z-of_z at (c.least_of.ensures.small 30000000000000) in
+    let s = simp to_z-of_z at (c.least_of.ensures.small slack_limit) in
     s (λ v e. small-wider v (gain-small (Joins (all_but c.len-skip.result) 1 largest 0 [] most rest)
     now.charges 0 rest prices best (omega (arith, c.requires.one_each, c.len-skip.ensures.kept.few))
     (are-prices prices c.requires.priced) c.gain_beside.ensures.top v e))

@@ -3,6 +3,8 @@ pub mod LaidAnew
 pub mod Betters
 pub mod Held
 pub mod Scanned
+pub mod Elsewhere
+pub mod Timed
 pub mod Permuted
 pub mod Homes
 pub mod Grouped

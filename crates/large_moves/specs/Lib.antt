@@ -1,4 +1,5 @@
 pub mod Laid
+pub mod Times
 pub mod Moves
 pub mod Scans
 pub mod Coloured

@@ -12,6 +12,7 @@ mod scan;
 mod slabs;
 #[cfg(test)]
 mod tests;
+mod tries;
 mod walking;
 
 pub use closed::Closed;

@@ -1,13 +1,13 @@
 //! The orders of a pair of slabs: gathered, and laid anew where a cheaper split is found.
-ghost use Rattle.std.specs.Prelude.{◌≡◌, ℕ, ◌+◌, ◌<◌, ◌≤◌, ◌++◌, ◌∷◌, [], List, true, false, cond};
-ghost use Rattle.std.specs.Prelude.{length, take, drop, slice_index};
+ghost use Rattle.std.specs.Prelude.{◌≡◌, ℕ, ◌+◌, ◌<◌, ◌≤◌, ◌++◌, ◌∷◌, [], List, true, cond, length};
+ghost use Rattle.std.specs.Prelude.{take, drop, slice_index, IfSome, IfNone};
 ghost use Rattle.mill_model.specs.Charges.{Reaches, charge_of};
 ghost use Rattle.mill_model.specs.Pairs.{one_of, pair_orders, pair_loss, closed_pair};
 ghost use Rattle.mill_model.specs.Plan.{loss, IsLegalPlan};
 ghost use Rattle.list_laws.specs.Sets.{holds};
 ghost use Rattle.mill_model.specs.declared.order.TheConstants.{MAX_ORDERS};
 ghost use Rattle.pair_split.specs.Splits.{grouped};
-ghost use Rattle.large_moves.specs.Laid.{AreLoads};
+ghost use Rattle.large_moves.specs.Laid.{AreLoads, StayElsewhere};
 ghost use Rattle.large_moves.specs.Moves.{split_plan};
 
 use crate::slabs::{is_one_of, load_of, second_slab};
@@ -71,7 +71,7 @@ fn lay(plan: &mut [u16], marks: &[bool], a: u16, b: u16, c: u16)
 }
 
 /// Lays the orders of a pair of slabs by their cheapest split, where that loses less than they do;
-/// whether it does.
+/// the slab besides the first that changes.
 fn resplit(
     splitter: &mut Splitter,
     items: &[Order],
@@ -83,7 +83,7 @@ fn resplit(
     a: u16,
     b: u16,
     bound: u64,
-) -> bool
+) -> Option<u16>
     requires items { items.now ≡ pair_orders orders.now plan.old a b }
     requires marks { length marks.old ≡ length items.now }
     requires reach { Reaches charges.now splitter.old }
@@ -96,28 +96,30 @@ fn resplit(
     requires used { holds a plan.old ≡ true }
     requires bound { bound ≡ pair_loss (charge_of charges.now) orders.now plan.old a b }
     ensures mill { splitter.new ≡ splitter.old }
-    ensures kept { result ≡ false → plan.new ≡ plan.old }
-    ensures closed { result ≡ false → closed_pair splitter.old (charge_of charges.now)
-        orders.now plan.old a b ≡ true }
-    ensures less { result ≡ true → loss (charge_of charges.now) plan.new orders.now
-        < loss (charge_of charges.now) plan.old orders.now }
+    ensures kept { IfNone result (plan.new ≡ plan.old) }
+    ensures closed { IfNone result (closed_pair splitter.old (charge_of charges.now)
+        orders.now plan.old a b ≡ true) }
+    ensures less { IfSome result (λ c. loss (charge_of charges.now) plan.new orders.now
+        < loss (charge_of charges.now) plan.old orders.now) }
+    ensures second { IfSome result (λ c. c < length orders.now) }
+    ensures stay { IfSome result (λ c. StayElsewhere a c plan.old plan.new) }
     ensures legal { IsLegalPlan splitter.old orders.now plan.new }
     ensures loads { AreLoads orders.now plan.new loads.new }
 {
     let Some(_) = splitter.better_split(charges, items, bound, marks) else {
-        return false;
+        return None;
     };
     let Some(c) = second_slab(plan, a, b) else {
-        return false;
+        return None;
     };
     lay(plan, marks, a, b, c);
     loads[a as usize] = load_of(plan, orders, a);
     loads[c as usize] = load_of(plan, orders, c);
-    true
+    Some(c)
 }
 
 /// Gathers the orders of a pair of slabs, and lays them anew where a split of them loses less than
-/// they do; whether it does.
+/// they do; the slab besides the first that changes.
 pub fn try_split(
     splitter: &mut Splitter,
     items: &mut [Order],
@@ -129,7 +131,7 @@ pub fn try_split(
     a: u16,
     b: u16,
     bound: u64,
-) -> bool
+) -> Option<u16>
     requires items { length items.old ≡ length orders.now }
     requires marks { length marks.old ≡ length orders.now }
     requires reach { Reaches charges.now splitter.old }
@@ -142,11 +144,13 @@ pub fn try_split(
     requires used { holds a plan.old ≡ true }
     requires bound { bound ≡ pair_loss (charge_of charges.now) orders.now plan.old a b }
     ensures mill { splitter.new ≡ splitter.old }
-    ensures kept { result ≡ false → plan.new ≡ plan.old }
-    ensures closed { result ≡ false → closed_pair splitter.old (charge_of charges.now)
-        orders.now plan.old a b ≡ true }
-    ensures less { result ≡ true → loss (charge_of charges.now) plan.new orders.now
-        < loss (charge_of charges.now) plan.old orders.now }
+    ensures kept { IfNone result (plan.new ≡ plan.old) }
+    ensures closed { IfNone result (closed_pair splitter.old (charge_of charges.now)
+        orders.now plan.old a b ≡ true) }
+    ensures less { IfSome result (λ c. loss (charge_of charges.now) plan.new orders.now
+        < loss (charge_of charges.now) plan.old orders.now) }
+    ensures second { IfSome result (λ c. c < length orders.now) }
+    ensures stay { IfSome result (λ c. StayElsewhere a c plan.old plan.new) }
     ensures legal { IsLegalPlan splitter.old orders.now plan.new }
     ensures loads { AreLoads orders.now plan.new loads.new }
 {

@@ -5,8 +5,7 @@ ghost use Rattle.std.specs.Prelude.{IfOk, IfSome};
 ghost use Rattle.std.specs.List.{list_all};
 ghost use Rattle.mill_model.specs.Charges.{Reaches, charge_of};
 ghost use Rattle.mill_model.specs.Instance.{IsOrder, largest, mill_of};
-ghost use Rattle.mill_model.specs.Plan.{numbers_each};
-ghost use Rattle.large_moves.specs.Moved.{IsStart};
+ghost use Rattle.mill_model.specs.Plan.{numbers_each, IsPlanWithLoss};
 
 use super::*;
 use mill_model::{Charges, Instance, Order, OutOfMemory, Plan, Start};
@@ -24,8 +23,8 @@ fn start_at(
 ) -> Result<Option<Start>, OutOfMemory>
     requires each { numbers_each slabs.items instance.now.orders ≡ true }
     requires reach { Reaches charges.now (mill_of instance.now) }
-    ensures { IfOk result (λ found. IfSome found (IsStart (mill_of instance.now)
-        (charge_of charges.now) instance.now.orders)) }
+    ensures { IfOk result (λ found. IfSome found (λ start. IsPlanWithLoss (mill_of instance.now)
+        (charge_of charges.now) instance.now.orders start.plan start.loss)) }
 {
     let plan = Plan::from_list(slabs);
     if let Verdict::Legal { loss } = judge(alloc, instance, charges, &plan)? {

@@ -14,7 +14,7 @@ use Rattle.mill_model.specs.Slab.{Mill}
 use Rattle.mill_model.specs.Starts.{best_start_loss}
 use Rattle.mill_model.specs.declared.order.Order.{Order}
 use Rattle.mill_model.specs.declared.plan.Start.{Start}
-use Rattle.large_moves.specs.Moved.{IsMoved}
+use Rattle.large_moves.specs.Moved.{IsNoWorse, HasClosed}
 use Rattle.large_moves.specs.declared.closed.Closed.{Closed}
 use Rattle.large_moves.proofs.Scanned.{all-take-any, sure-is, triangle}
 use Rattle.order_symmetry.proofs.Ranks.{rank-each}
@@ -40,18 +40,19 @@ module _ (mill : Mill) (charge : ℕ → ℕ) (orders : List Order) (moves : ℕ
 
   pub moved-is-possible : (before after : Start) (closed : Closed) →
       before.loss ≤ best_start_loss mill charge (ranked_orders orders) →
-      IsMoved mill charge orders moves before after closed →
+      IsNoWorse mill charge orders before after →
+      HasClosed mill charge orders moves before after closed →
       IsPossibleStart mill charge orders moves after.plan
-  moved-is-possible before after closed greedy moved =
-      let loses = moved.start.loses in
-      let no_more = moved.no_more in
+  moved-is-possible before after closed greedy no_worse has_closed =
+      let loses = no_worse.start.loses in
+      let no_more = no_worse.no_more in
       let most : ℕ = best_start_loss mill charge (ranked_orders orders) in
       record {
-        is_legal = moved.start.legal;
+        is_legal = no_worse.start.legal;
         at_most = omega (arith, loses, no_more, greedy);
         closed = fewer-closed after.plan _ _ (fewer-tries moves (before.loss - after.loss)
             (most - loss charge after.plan orders) (length orders)
-            (omega (arith, loses, no_more, greedy))) moved.first;
+            (omega (arith, loses, no_more, greedy))) has_closed.first;
       }
 
 -- what holds of each order holds of each in rank

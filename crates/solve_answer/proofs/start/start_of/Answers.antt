@@ -20,8 +20,8 @@ returns-clause-possible c orders placed =
     let greedy : c.in_ok-greedy.greedy.loss ≡ best_start_loss mill charge (ranked_orders orders) =
     c.in_ok-greedy.ensures.least
     ∙ ap (λ list. best_start_loss mill charge (map (λ p. p.order) list)) placed in
-    let moved = (c.in_ok-moved.ensures orders placed).no_more in
-    let walked = (c.in_ok-walked.ensures.walked orders placed).no_more in
+    let moved = (c.in_ok-moved.ensures.no_worse orders placed).no_more in
+    let walked = (c.in_ok-walked.ensures.no_worse orders placed).no_more in
     moved-is-possible mill charge orders c.args.moves c.in_ok-walked.walked c.in_ok-start.start
     c.in_ok-start.field-0-1 (omega (arith, greedy, moved, walked))
-    (c.in_ok-start.ensures orders placed)
+    (c.in_ok-start.ensures.no_worse orders placed) (c.in_ok-start.ensures.closed orders placed)

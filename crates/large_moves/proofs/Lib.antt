@@ -10,5 +10,5 @@ pub mod Homes
 pub mod Grouped
 pub mod FileOrders
 pub mod Promise
-pub mod SameFile
+pub mod MovesPromise
 pub mod Walked

@@ -1,5 +1,5 @@
 -- Scans, pair by pair.
-use Rattle.std.proofs.Common.{ℕ, zero, suc, ◌+◌, ◌-◌, ◌*◌, ◌<◌, ◌≤◌, ◌≡◌, Bool, true, false, cond}
+use Rattle.std.proofs.Common.{ℕ, zero, suc, ◌+◌, ◌-◌, ◌*◌, ◌/◌, ◌<◌, ◌≤◌, ◌≡◌, Bool, true, false, cond}
 use Rattle.std.proofs.Common.{◌&&◌, List, [], ◌∷◌, ◌++◌, length, take, leb, refl, sym, ap, ◌∙◌}
 use Rattle.std.proofs.Common.{arith, inl, inr, subst, leb-true, leb-false, mul-le-mul_right}
 use Rattle.std.specs.List.{list_all}
@@ -293,13 +293,16 @@ two-triangle (suc n) =
     let e : suc n * suc (suc n) ≡ n * suc n + 2 * suc n = grind arith in
     omega (arith, ih, e)
 
-pub sure-is : (moves gain n : ℕ) → sure_tries moves gain n ≡ moves - gain * triangle n
-sure-is moves gain n =
+pub half-is : (gain n : ℕ) → gain * n * suc n / 2 ≡ gain * triangle n
+half-is gain n =
     let e : n * suc n ≡ 2 * triangle n = two-triangle n in
     let a : gain * n * suc n ≡ gain * (n * suc n) = grind arith in
     let b : gain * (n * suc n) ≡ gain * (2 * triangle n) = ap (λ x. gain * x) e in
     let d : gain * (2 * triangle n) ≡ 2 * (gain * triangle n) = grind arith in
     omega (arith, a, b, d)
+
+pub sure-is : (moves gain n : ℕ) → sure_tries moves gain n ≡ moves - gain * triangle n
+sure-is moves gain n = ap (λ x. moves - x) (half-is gain n)
 
 -- one try more of a plan that loses less
 pub tries-more : (moves left now start old new n pairs : ℕ) →

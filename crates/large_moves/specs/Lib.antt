@@ -4,3 +4,4 @@ pub mod Moves
 pub mod Scans
 pub mod Coloured
 pub mod Moved
+pub mod Laws

@@ -1,6 +1,6 @@
 -- The greedy plan loses the most that a possible start may lose, and neither moves nor the walk
 -- raise that; so what moves leave is a possible start, also behind the walk.
-use Rattle.std.proofs.Common.{◌≡◌, ◌≤◌, ℕ, map, ap, ◌∙◌, arith}
+use Rattle.std.proofs.Common.{◌≡◌, ℕ, map, ap, ◌∙◌, arith}
 use Rattle.mill_model.specs.Charges.{charge_of}
 use Rattle.mill_model.specs.Rank.{ranked_orders}
 use Rattle.mill_model.specs.Starts.{best_start_loss}

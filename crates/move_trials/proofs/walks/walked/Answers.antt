@@ -5,7 +5,7 @@ use Rattle.mill_model.specs.Instance.{mill_of}
 use Rattle.mill_model.specs.Plan.{IsPlanWithLoss}
 use Rattle.mill_model.specs.Slab.{Mill}
 use Rattle.mill_model.specs.declared.order.Order.{Order}
-use Rattle.large_moves.proofs.SameFile.{same-file}
+use Rattle.move_trials.proofs.SameFile.{same-file}
 use Rattle.move_trials.proofs.walks.walked.Goals as goal
 
 pub walk-requires-clause-start : goal.walk-requires-clause-start

@@ -14,7 +14,7 @@ ghost use Rattle.large_moves.specs.Scans.{is_pair, IsScan, AreTimesOf, ClosesPai
 use crate::by_colour::{orders_alone, read_plan};
 use crate::closed::Closed;
 use crate::coloured::Coloured;
-use crate::pair::try_split;
+use crate::pair::{ChargedOrders, Pair, try_split};
 use crate::scan::Scan;
 use crate::tries::Tries;
 use mill_model::{Charges, Order, OutOfMemory};
@@ -153,33 +153,34 @@ impl Mover {
 
     // Lays the orders of a pair anew, where a split of them loses less than they do; the slab besides
     // the first that changes.
-    fn try_pair(&mut self, charges: &Charges, a: u16, b: u16, bound: u64) -> Option<u16>
+    fn try_pair(&mut self, charges: &Charges, pair: Pair) -> Option<u16>
         requires reach { Reaches charges.now self.old.mill }
-        requires rise { a ≤ b }
-        requires second { b < length self.old.orders }
-        requires used { holds a self.old.plan ≡ true }
-        requires bound { bound ≡ pair_loss (charge_of charges.now) self.old.orders
-            self.old.plan a b }
+        requires rise { pair.first ≤ pair.second }
+        requires second { pair.second < length self.old.orders }
+        requires used { holds pair.first self.old.plan ≡ true }
+        requires loss { pair.loss ≡ pair_loss (charge_of charges.now) self.old.orders
+            self.old.plan pair.first pair.second }
         ensures same { SameOrders self.old self.new }
         ensures kept { IfNone result (self.new ≡ self.old) }
         ensures closed { IfNone result (closed_pair self.old.mill
-            (charge_of charges.now) self.old.orders self.old.plan a b ≡ true) }
+            (charge_of charges.now) self.old.orders self.old.plan pair.first pair.second ≡ true) }
         ensures less { IfSome result (λ c. laid_loss (charge_of charges.now) self.new
             < laid_loss (charge_of charges.now) self.old) }
         ensures second { IfSome result (λ c. c < length self.old.orders) }
-        ensures stay { IfSome result (λ c. StayElsewhere a c self.old.plan self.new.plan) }
+        ensures stay { IfSome result (λ c. StayElsewhere pair.first c self.old.plan
+            self.new.plan) }
     {
         try_split(
             &mut self.splitter,
             &mut self.items,
             &mut self.marks,
-            charges,
-            &self.orders,
+            &ChargedOrders {
+                list: &self.orders,
+                charges,
+            },
             &mut self.plan,
             &mut self.loads,
-            a,
-            b,
-            bound,
+            pair,
         )
     }
 
@@ -200,14 +201,19 @@ impl Mover {
         if tries.needs_none(a, b) {
             return Scan::Done;
         }
-        let bound = self.pair_loss(charges, a, b);
-        if bound == 0 {
+        let loss = self.pair_loss(charges, a, b);
+        if loss == 0 {
             return Scan::Done;
         }
         if tries.left() == 0 {
             return Scan::Spent;
         }
-        let Some(c) = self.try_pair(charges, a, b, bound) else {
+        let pair = Pair {
+            first: a,
+            second: b,
+            loss,
+        };
+        let Some(c) = self.try_pair(charges, pair) else {
             tries.spend();
             return Scan::Done;
         };

@@ -4,12 +4,12 @@ use Rattle.large_moves.proofs.Scanned.{free-closed, pair-closed}
 use Rattle.large_moves.proofs.Timed.{changed-times}
 use Rattle.large_moves.proofs.mover.Mover.scan_pair.Goals as goal
 
-pub returns-then-bound-eq0-clause-scan : goal.returns-then-bound-eq0-clause-scan
-returns-then-bound-eq0-clause-scan c = (
+pub returns-then-loss-eq0-clause-scan : goal.returns-then-loss-eq0-clause-scan
+returns-then-loss-eq0-clause-scan c = (
   refl,
   pair-closed (charge_of c.args.charges.now) c.args.self.now c.args.a c.args.b
       (free-closed (charge_of c.args.charges.now) c.args.self.now c.args.a c.args.b
-      (sym c.pair_loss-bound.ensures.is ∙ c.if-bound-eq0.true)),
+      (sym c.pair_loss-loss.ensures.is ∙ c.if-loss-eq0.true)),
   omega arith,
 )
 

@@ -1,5 +1,5 @@
--- Where two slabs of a plan change, the pairs of the others are the same pairs as before, of the same
--- orders, and lose the same; so those that were closed still are.
+-- Where two slabs of a plan change, the pairs of the others are the same pairs as before, of the
+-- same orders, and lose the same; so those that were closed still are.
 use Rattle.std.proofs.Common.{ℕ, ◌≡◌, ◌≢◌, ◌+◌, false, ◌&&◌, ◌||◌, List, [], ◌∷◌, map, cond}
 use Rattle.std.proofs.Common.{eqb, ltb, leb, refl, sym, ap, ap₂, ◌∙◌, eq-eqb, ne_eqb}
 use Rattle.std.proofs.Common.{inl, inr}

@@ -60,7 +60,8 @@ no-moves mill charge orders plan is_legal at_most = record {
 pub bound-falls : BoundFallsWithMoves
 bound-falls mill charge orders few many high low up above below =
     let start = below.reached in
-    let most = above.greatest start.0 (fewer-moves mill charge orders start.0 few many up start.1) in
+    let most = above.greatest start.0 (fewer-moves mill charge orders start.0 few many up start.1)
+    in
     omega (arith, most, start.2)
 
 pub enough-moves : EnoughMovesCloseAll

@@ -29,7 +29,8 @@ module _ (mill : Mill) (charge : ℕ → ℕ) (orders : List Order) (coloured : 
   moved : IsPlanWithLoss mill charge orders before.plan before.loss →
       IsLegalPlan mill (orders_of coloured) (plan_of coloured after.plan) →
       after.loss ≡ loss charge (plan_of coloured after.plan) (orders_of coloured) →
-      ClosesPairs charge (laid_of mill coloured before.plan) (laid_of mill coloured after.plan) moves
+      ClosesPairs charge (laid_of mill coloured before.plan) (laid_of mill coloured after.plan)
+      moves
       closed →
       IsNoWorse mill charge orders before after
       × HasClosed mill charge orders moves before after closed
@@ -83,7 +84,8 @@ module _ (mill : Mill) (charge : ℕ → ℕ) (orders : List Order) (coloured : 
   moved-in-file old new begins start ends same plan_is is_legal loses = moved start
       (subst (λ (laid : Laid). IsLegalPlan laid.mill laid.orders laid.plan) new_is is_legal)
       (loses ∙ ap (λ (laid : Laid). laid_loss charge laid) new_is)
-      (subst (λ laid. ClosesPairs charge (laid_of mill coloured before.plan) laid moves closed) new_is
+      (subst (λ laid. ClosesPairs charge (laid_of mill coloured before.plan) laid moves closed)
+      new_is
       (subst (λ laid. ClosesPairs charge laid new moves closed) begins ends))
     where
       mill_is : new.mill ≡ mill
@@ -99,11 +101,13 @@ module _ (mill : Mill) (charge : ℕ → ℕ) (orders : List Order) (coloured : 
 pub unmoved-in-file : (mill : Mill) (charge : ℕ → ℕ) (orders : List Order)
     (coloured : List Coloured) → IsByColour (rank orders) coloured → (moves : ℕ) (start : Start)
     (closed : Closed) → length start.plan ≡ length orders → (old new : Laid) →
-    old ≡ laid_of mill coloured start.plan → IsPlanWithLoss mill charge orders start.plan start.loss →
+    old ≡ laid_of mill coloured start.plan → IsPlanWithLoss mill charge orders start.plan start.loss
+    →
     ClosesPairs charge old new moves closed → SameOrders old new →
     start.loss ≡ laid_loss charge new → HasClosed mill charge orders moves start start closed
 unmoved-in-file mill charge orders coloured by moves start closed long old new begins known ends
-    same loses = (moved-in-file mill charge orders coloured by moves start start closed long long old
+    same loses = (moved-in-file mill charge orders coloured by moves start start closed long long
+    old
     new begins known ends same (ap (λ (laid : Laid). laid.plan) new_is)
     (subst (λ (laid : Laid). IsLegalPlan laid.mill laid.orders laid.plan) (sym new_is)
     (legal-here orders coloured by start.plan long mill known.legal)) loses).1

@@ -1,7 +1,7 @@
 -- Scans, pair by pair.
-use Rattle.std.proofs.Common.{ℕ, zero, suc, ◌+◌, ◌-◌, ◌*◌, ◌/◌, ◌<◌, ◌≤◌, ◌≡◌, Bool, true, false, cond}
-use Rattle.std.proofs.Common.{◌&&◌, List, [], ◌∷◌, ◌++◌, length, take, leb, refl, sym, ap, ◌∙◌}
-use Rattle.std.proofs.Common.{arith, inl, inr, subst, leb-true, leb-false, mul-le-mul_right}
+use Rattle.std.proofs.Common.{ℕ, zero, suc, ◌+◌, ◌-◌, ◌*◌, ◌/◌, ◌<◌, ◌≤◌, ◌≡◌, Bool, true, false}
+use Rattle.std.proofs.Common.{cond, ◌&&◌, List, [], ◌∷◌, ◌++◌, length, take, leb, refl, sym, ap}
+use Rattle.std.proofs.Common.{◌∙◌, arith, inl, inr, subst, leb-true, leb-false, mul-le-mul_right}
 use Rattle.std.specs.List.{list_all}
 use Rattle.list_laws.specs.Sets.{holds}
 use Rattle.mill_model.specs.Pairs.{closed_pair, pair_loss, pair_orders, pair_at, pairs_with}

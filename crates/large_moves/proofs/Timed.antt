@@ -84,6 +84,12 @@ module _ (times : Times) (are : AreTimes times) where
         (get_or-set_other times.closed a x (Some left) None n) h)
   ]
 
+-- as many slabs are told of behind a change
+pub changed-length : (changed : List ℕ) (a c left : ℕ) {new : List ℕ} →
+    new ≡ set (set changed a left) c left → length new ≡ length changed
+changed-length changed a c left e =
+    ap length e ∙ length-set (set changed a left) c left ∙ length-set changed a left
+
 -- at first each pair needs a try
 pub first-times : (charge : ℕ → ℕ) (laid : Laid) (times : Times) →
     length times.changed ≡ length laid.orders → ((x y : ℕ) → needs_none times x y ≡ false) →

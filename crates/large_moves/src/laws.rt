@@ -8,10 +8,10 @@ ghost use Rattle.mill_model.specs.Small.{four, order, three_mill, three_orders};
 ghost use Rattle.large_moves.specs.Laws.{NoMovesPromiseNothing, BoundFallsWithMoves};
 ghost use Rattle.large_moves.specs.Laws.{EnoughMovesCloseAll};
 
-/// The sizes 5 and 7, and the orders (3, 1), (3, 1), (2, 1) and (2, 1): greedy, those of each weight
-/// lie together and lose 2. That is the start bound with no moves; with 30 of them, which is 2 + 1
-/// times the 10 pairs that four slabs have, that plan is no possible start, since its pair of slabs
-/// isn't closed.
+/// The sizes 5 and 7, and the orders (3, 1), (3, 1), (2, 1) and (2, 1): greedy, those of each
+/// weight lie together and lose 2. That is the start bound with no moves; with 30 of them, which is
+/// 2 + 1 times the 10 pairs that four slabs have, that plan is no possible start, since its pair of
+/// slabs isn't closed.
 pub fn start_of_four_orders()
     ensures greedy { IsStartBound (record { largest = 7; most_colours = 2 })
         (loss_charge (5 ∷ 7 ∷ [])) (order 3 1 ∷ order 3 1 ∷ order 2 1 ∷ order 2 1 ∷ []) 0 2 }
@@ -24,7 +24,7 @@ pub fn start_of_four_orders()
 {}
 
 /// One size, 4, and the orders (1, 1), (1, 2) and (2, 3), with two colours a slab: the greedy plan
-/// loses 4 and is pair-closed, so 4 is the start bound for any moves that were asked for here.
+/// loses 4 and is pair-closed, so 4 is the start bound with 1000 moves.
 pub fn start_of_three_orders()
     ensures { IsStartBound three_mill four three_orders 1000 4 }
 {}

@@ -151,8 +151,8 @@ impl Mover {
         first + second
     }
 
-    // Lays the orders of a pair anew, where a split of them loses less than they do; the slab besides
-    // the first that changes.
+    // Lays the orders of a pair anew, where a split of them loses less than they do; the slab
+    // besides the first that changes.
     fn try_pair(&mut self, charges: &Charges, pair: Pair) -> Option<u16>
         requires reach { Reaches charges.now self.old.mill }
         requires rise { pair.first ≤ pair.second }

@@ -106,13 +106,14 @@ fn resplit(
     requires rise { pair.first ≤ pair.second }
     requires second { pair.second < length orders.now.list.now }
     requires used { holds pair.first plan.old ≡ true }
-    requires loss { pair.loss ≡ pair_loss (charge_of orders.now.charges.now) orders.now.list.now plan.old
-        pair.first pair.second }
+    requires loss { pair.loss ≡ pair_loss (charge_of orders.now.charges.now)
+        orders.now.list.now plan.old pair.first pair.second }
     ensures mill { splitter.new ≡ splitter.old }
     ensures kept { IfNone result (plan.new ≡ plan.old) }
     ensures closed { IfNone result (closed_pair splitter.old (charge_of orders.now.charges.now)
         orders.now.list.now plan.old pair.first pair.second ≡ true) }
-    ensures less { IfSome result (λ c. loss (charge_of orders.now.charges.now) plan.new orders.now.list.now
+    ensures less { IfSome result (λ c.
+        loss (charge_of orders.now.charges.now) plan.new orders.now.list.now
         < loss (charge_of orders.now.charges.now) plan.old orders.now.list.now) }
     ensures second { IfSome result (λ c. c < length orders.now.list.now) }
     ensures stay { IfSome result (λ c. StayElsewhere pair.first c plan.old plan.new) }
@@ -152,13 +153,14 @@ pub fn try_split(
     requires rise { pair.first ≤ pair.second }
     requires second { pair.second < length orders.now.list.now }
     requires used { holds pair.first plan.old ≡ true }
-    requires loss { pair.loss ≡ pair_loss (charge_of orders.now.charges.now) orders.now.list.now plan.old
-        pair.first pair.second }
+    requires loss { pair.loss ≡ pair_loss (charge_of orders.now.charges.now)
+        orders.now.list.now plan.old pair.first pair.second }
     ensures mill { splitter.new ≡ splitter.old }
     ensures kept { IfNone result (plan.new ≡ plan.old) }
     ensures closed { IfNone result (closed_pair splitter.old (charge_of orders.now.charges.now)
         orders.now.list.now plan.old pair.first pair.second ≡ true) }
-    ensures less { IfSome result (λ c. loss (charge_of orders.now.charges.now) plan.new orders.now.list.now
+    ensures less { IfSome result (λ c.
+        loss (charge_of orders.now.charges.now) plan.new orders.now.list.now
         < loss (charge_of orders.now.charges.now) plan.old orders.now.list.now) }
     ensures second { IfSome result (λ c. c < length orders.now.list.now) }
     ensures stay { IfSome result (λ c. StayElsewhere pair.first c plan.old plan.new) }

@@ -1,5 +1,6 @@
 //! The tries that are left, and the pairs of slabs that need none.
-ghost use Rattle.std.specs.Prelude.{◌≡◌, ℕ, ◌+◌, ◌<◌, ◌⊎◌, true, false, length, IfOk};
+ghost use Rattle.std.specs.Prelude.{◌≡◌, ℕ, ◌+◌, ◌<◌, ◌⊎◌, true, false, length, slice_set, IfOk};
+ghost use Rattle.std.specs.Prelude.{Some};
 ghost use Rattle.large_moves.specs.Times.{IsElsewhere, needs_none};
 
 use mill_model::OutOfMemory;
@@ -83,7 +84,9 @@ impl Tries {
         requires first { a < length self.old.changed }
         requires second { c < length self.old.changed }
         ensures left { self.new.left + 1 ≡ self.old.left }
-        ensures slabs { length self.new.changed ≡ length self.old.changed }
+        ensures changed { self.new.changed
+            ≡ slice_set (slice_set self.old.changed a self.new.left) c self.new.left }
+        ensures closed { self.new.closed ≡ self.old.closed }
         ensures elsewhere { (x y : ℕ) → needs_none self.new x y ≡ true →
             IsElsewhere self.old a c x y }
     {
@@ -96,7 +99,8 @@ impl Tries {
     pub fn close_row(&mut self, a: u16)
         requires { a < length self.old.changed }
         ensures left { self.new.left ≡ self.old.left }
-        ensures slabs { self.new.changed ≡ self.old.changed }
+        ensures changed { self.new.changed ≡ self.old.changed }
+        ensures closed { self.new.closed ≡ slice_set self.old.closed a (Some self.old.left) }
         ensures rows { (x y : ℕ) → needs_none self.new x y ≡ true →
             (x ≡ a) ⊎ (needs_none self.old x y ≡ true) }
     {

@@ -31,7 +31,8 @@ module _ (mill : Mill) (charge : ℕ → ℕ) (orders : List Order) (moves : ℕ
       record {
         is_legal = no_worse.start.legal;
         at_most = omega (arith, loses, no_more, greedy);
-        closed = fewer-closed mill charge orders after.plan _ _ (fewer-tries moves (before.loss - after.loss)
+        closed = fewer-closed mill charge orders after.plan _ _ (fewer-tries moves (before.loss -
+            after.loss)
             (most - loss charge after.plan orders) (length orders)
             (omega (arith, loses, no_more, greedy))) has_closed.first;
       }

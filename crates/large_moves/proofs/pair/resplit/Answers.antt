@@ -14,7 +14,8 @@ use Rattle.large_moves.proofs.pair.resplit.Goals.{After-load_of-2}
 
 pub better_split-requires-clause-few : goal.better_split-requires-clause-few
 better_split-requires-clause-few c =
-    let few : length (pair_orders c.args.orders.now.list.now c.args.plan.now c.args.pair.first c.args.pair.second)
+    let few : length (pair_orders c.args.orders.now.list.now c.args.plan.now c.args.pair.first
+    c.args.pair.second)
     ≤ length c.args.orders.now.list.now = chosen-length _ c.args.orders.now.list.now in
     subst (λ xs. length xs ≤ 1024) (sym c.requires.items) (omega (arith, few, c.requires.few))
 
@@ -26,30 +27,37 @@ pub returns-in_default-second_slab-clause-closed :
     goal.returns-in_default-second_slab-clause-closed
 returns-in_default-second_slab-clause-closed c =
     let better = better-split c.args.splitter.now (charge_of c.args.orders.now.charges.now)
-    c.args.orders.now.list.now c.args.plan.now c.args.pair.first c.args.pair.second c.args.pair.loss c.in-Some.field-0
+    c.args.orders.now.list.now c.args.plan.now c.args.pair.first c.args.pair.second c.args.pair.loss
+    c.in-Some.field-0
     c.args.items.now c.better_split.new.marks c.requires.items c.in-Some.ensures.split
     c.in-Some.ensures.less in
     let none = c.in_default-second_slab.ensures.none in
     absurd (second-exists c.args.splitter.now (charge_of c.args.orders.now.charges.now)
-    c.args.orders.now.charges.now.free c.args.orders.now.list.now c.args.plan.now c.args.pair.first c.args.pair.second c.args.pair.loss
+    c.args.orders.now.charges.now.free c.args.orders.now.list.now c.args.plan.now c.args.pair.first
+    c.args.pair.second c.args.pair.loss
     c.requires.second c.requires.legal c.requires.loss c.better_split.new.marks better none.0
     none.1)
 
 better : (c : After-load_of-2) → IsBetter c.args.splitter.now
-    (charge_of c.args.orders.now.charges.now) c.args.orders.now.list.now c.args.plan.now c.lay.new.plan
+    (charge_of c.args.orders.now.charges.now) c.args.orders.now.list.now c.args.plan.now
+    c.lay.new.plan
 better c =
     let split = better-split c.args.splitter.now (charge_of c.args.orders.now.charges.now)
-    c.args.orders.now.list.now c.args.plan.now c.args.pair.first c.args.pair.second c.args.pair.loss c.in-Some.field-0
+    c.args.orders.now.list.now c.args.plan.now c.args.pair.first c.args.pair.second c.args.pair.loss
+    c.in-Some.field-0
     c.args.items.now c.better_split.new.marks c.requires.items c.in-Some.ensures.split
     c.in-Some.ensures.less in
     subst (λ new. IsBetter c.args.splitter.now (charge_of c.args.orders.now.charges.now)
     c.args.orders.now.list.now c.args.plan.now new) (sym c.lay.ensures)
-    (move-betters c.args.splitter.now (charge_of c.args.orders.now.charges.now) c.args.orders.now.charges.now.free
-    c.args.orders.now.list.now c.args.plan.now c.args.pair.first c.args.pair.second c.in-Some-second_slab.c c.args.pair.loss
+    (move-betters c.args.splitter.now (charge_of c.args.orders.now.charges.now)
+    c.args.orders.now.charges.now.free
+    c.args.orders.now.list.now c.args.plan.now c.args.pair.first c.args.pair.second
+    c.in-Some-second_slab.c c.args.pair.loss
     c.requires.rise c.requires.second c.requires.used c.requires.legal c.requires.loss
     c.better_split.new.marks split c.in-Some-second_slab.ensures.some)
 
-stay : (c : After-load_of-2) → StayElsewhere c.args.pair.first c.in-Some-second_slab.c c.args.plan.now
+stay : (c : After-load_of-2) → StayElsewhere c.args.pair.first c.in-Some-second_slab.c
+    c.args.plan.now
     c.lay.new.plan
 stay c = subst (λ new. StayElsewhere c.args.pair.first c.in-Some-second_slab.c c.args.plan.now new)
     (sym c.lay.ensures)
@@ -77,7 +85,8 @@ returns-clause-loads c =
     let long = plan-length c.args.splitter.now c.args.orders.now.list.now c.args.plan.now
     c.requires.legal in
     let below = c.in-Some-second_slab.ensures.some.below in
-    loads-moved c.args.orders.now.list.now c.args.plan.now c.lay.new.plan c.args.loads.now c.args.pair.first
+    loads-moved c.args.orders.now.list.now c.args.plan.now c.lay.new.plan c.args.loads.now
+    c.args.pair.first
     c.in-Some-second_slab.c c.load_of.result c.load_of-2.result c.requires.loads
     (omega (arith, c.requires.rise, c.requires.second)) (omega (arith, below, long))
     (λ s m n. ap (λ marks. chosen marks c.args.orders.now.list.now) (stay c s m n))

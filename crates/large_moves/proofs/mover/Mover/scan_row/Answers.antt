@@ -38,7 +38,8 @@ returns-in-Spent-clause-scan c =
     let charge : ℕ → ℕ = charge_of c.args.charges.now in
     let plan = c.args.self.now.plan in
     let here = subst (λ (laid : Laid). IsScan (charge_of c.args.charges.now) laid
-    c.scan_pair.new.self (pair_at laid.plan c.args.a c.loop-b.b) c.loop-b.tries.left c.scan_pair.new.tries.left
+    c.scan_pair.new.self (pair_at laid.plan c.args.a c.loop-b.b)
+    c.loop-b.tries.left c.scan_pair.new.tries.left
     Spent)
     c.loop-b.invariant.kept c.in-Spent.ensures.scan in
     let rest = with-prefix plan c.args.a (length plan) (suc c.loop-b.b)
@@ -46,7 +47,8 @@ returns-in-Spent-clause-scan c =
       here.0,
       spent-between charge c.args.self.now (pairs_with plan c.args.a (length plan))
           (pairs_with plan c.args.a c.loop-b.b) (pair_at plan c.args.a c.loop-b.b) rest.0
-          c.args.tries.now.left c.loop-b.tries.left rest.1 c.loop-b.invariant.closed c.loop-b.invariant.tries
+          c.args.tries.now.left c.loop-b.tries.left rest.1 c.loop-b.invariant.closed
+          c.loop-b.invariant.tries
           here.1,
     )
 
@@ -55,23 +57,27 @@ returns-in-Changed-clause-scan c =
     let charge : ℕ → ℕ = charge_of c.args.charges.now in
     let plan = c.args.self.now.plan in
     let here = subst (λ (laid : Laid). IsScan (charge_of c.args.charges.now) laid
-    c.scan_pair.new.self (pair_at laid.plan c.args.a c.loop-b.b) c.loop-b.tries.left c.scan_pair.new.tries.left
+    c.scan_pair.new.self (pair_at laid.plan c.args.a c.loop-b.b)
+    c.loop-b.tries.left c.scan_pair.new.tries.left
     Changed) c.loop-b.invariant.kept c.in-Changed.ensures.scan in
     let rest = with-prefix plan c.args.a (length plan) (suc c.loop-b.b)
     (omega (arith, c.loop-b-test.true, c.len-b-end.ensures.plan)) in (
       here.0,
       tries-between charge c.args.self.now (pairs_with plan c.args.a (length plan))
           (pairs_with plan c.args.a c.loop-b.b) (pair_at plan c.args.a c.loop-b.b) rest.0
-          c.args.tries.now.left c.loop-b.tries.left c.scan_pair.new.tries.left rest.1 c.loop-b.invariant.tries here.1,
+          c.args.tries.now.left c.loop-b.tries.left c.scan_pair.new.tries.left rest.1
+          c.loop-b.invariant.tries here.1,
     )
 
 pub loop-b-preserved : goal.loop-b-preserved
 loop-b-preserved c =
     let charge : ℕ → ℕ = charge_of c.args.charges.now in
     let here = subst (λ (laid : Laid). IsScan (charge_of c.args.charges.now) laid
-    c.scan_pair.new.self (pair_at laid.plan c.args.a c.loop-b.b) c.loop-b.tries.left c.scan_pair.new.tries.left
+    c.scan_pair.new.self (pair_at laid.plan c.args.a c.loop-b.b)
+    c.loop-b.tries.left c.scan_pair.new.tries.left
     Done) c.loop-b.invariant.kept c.in-Done.ensures.scan in
-    let more = row-more charge c.args.self.now c.args.a c.loop-b.b c.args.tries.now.left c.loop-b.tries.left
+    let more = row-more charge c.args.self.now c.args.a c.loop-b.b c.args.tries.now.left
+    c.loop-b.tries.left
     c.scan_pair.new.tries.left c.loop-b.invariant.closed c.loop-b.invariant.tries here.1 here.2 in
     record {
       kept = here.0;
@@ -88,4 +94,4 @@ returns-clause-times c =
     (row-times (charge_of c.args.charges.now) c.args.self.now c.loop-b.tries c.close_row.new.self
     c.loop-b.invariant.times c.args.a c.loop-b.b
     (omega (arith, c.loop-b-test.false, c.len-b-end.ensures.orders)) c.loop-b.invariant.closed
-    c.close_row.ensures.slabs c.close_row.ensures.rows)
+    c.close_row.ensures.changed c.close_row.ensures.rows)

@@ -15,8 +15,9 @@ use Rattle.list_laws.proofs.Sums.{total-cong, total-zero, each_below-at, each_be
 use Rattle.large_moves.specs.Moves.{split_plan, IsSecond}
 use Rattle.pair_split.specs.Splits.{IsCheapestSplit, grouped, front, colours_in}
 use Rattle.pair_split.proofs.Front.{chosen-lacks}
-use Rattle.large_moves.proofs.LaidAnew.{slab-first, slab-second, slab-other, split-length}
-use Rattle.large_moves.proofs.LaidAnew.{split-below, total-two}
+use Rattle.large_moves.specs.Laid.{StayElsewhere}
+use Rattle.large_moves.proofs.LaidAnew.{slab-first, slab-second, slab-other, marks-other}
+use Rattle.large_moves.proofs.LaidAnew.{split-length, split-below, total-two}
 
 pub eq-either : (s a : ℕ) → (s ≡ a) ⊎ (s ≢ a)
 eq-either s a =
@@ -445,11 +446,10 @@ better-split mill charge orders plan a b bound cheap items marks e best less =
     })
 
 -- the other slabs stay
-pub others-stay : (orders : List Order) (plan : List ℕ) (marks : List Bool) (a b c : ℕ) → a ≤ b →
-    IsSecond plan a b c → (s : ℕ) → s ≢ a → s ≢ c →
-    slab s (split_plan (one_of a b) marks a c plan) orders ≡ slab s plan orders
-others-stay orders plan marks a b c rise second s m n =
-    slab-other (one_of a b) a c s apart m n marks plan orders
+pub others-stay : (plan : List ℕ) (marks : List Bool) (a b c : ℕ) → a ≤ b →
+    IsSecond plan a b c → StayElsewhere a c plan (split_plan (one_of a b) marks a c plan)
+others-stay plan marks a b c rise second s m n =
+    marks-other (one_of a b) a c s apart m n marks plan
   where
     not-b : s ≢ b
     not-b e = elim (eq-or-lt_of_le {n = a} {m = b} rise) [

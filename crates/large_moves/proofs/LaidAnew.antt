@@ -124,24 +124,16 @@ slab-second kind a c n set (t ∷ plan) (o ∷ orders) e l h = elim (either (kin
     go (false ∷ set) l ih = rw here (ap (λ l. o ∷ l) (ih set (omega arith)))
 
 -- the other slabs stay
-pub slab-other : (kind : ℕ → Bool) (a c s : ℕ) → kind s ≡ false → s ≢ a → s ≢ c →
-    (set : List Bool) (plan : List ℕ) (orders : List Order) →
-    slab s (split_plan kind set a c plan) orders ≡ slab s plan orders
-slab-other kind a c s k x y set [] orders = refl
-slab-other kind a c s k x y set (t ∷ plan) [] = one (kind t) set
-  where
-    one : (b : Bool) (set : List Bool) →
-        slab s (cond b
-        (cond (first_mark set) a c ∷ split_plan kind (further set) a c plan)
-        (t ∷ split_plan kind set a c plan)) [] ≡ []
-    one true set = refl
-    one false set = refl
-slab-other kind a c s k x y set (t ∷ plan) (o ∷ orders) = elim (either (kind t)) [
+pub marks-other : (kind : ℕ → Bool) (a c s : ℕ) → kind s ≡ false → s ≢ a → s ≢ c →
+    (set : List Bool) (plan : List ℕ) →
+    map (λ t. eqb s t) (split_plan kind set a c plan) ≡ map (λ t. eqb s t) plan
+marks-other kind a c s k x y set [] = refl
+marks-other kind a c s k x y set (t ∷ plan) = elim (either (kind t)) [
   | inl q ↦ (let d : eqb s t ≡ false =
       ne_eqb s t (λ e. apart (subst (λ z. kind z ≡ false) e k) q) in
       let z : eqb s (cond (first_mark set) a c) ≡ false = put (first_mark set) in
-      rw (q, d, z) (slab-other kind a c s k x y (further set) plan orders))
-  | inr q ↦ rw q (step (eqb s t) (slab-other kind a c s k x y set plan orders))
+      rw (q, d, z) (ap (λ l. false ∷ l) (marks-other kind a c s k x y (further set) plan)))
+  | inr q ↦ rw q (ap (λ l. eqb s t ∷ l) (marks-other kind a c s k x y set plan))
 ]
   where
     apart : kind t ≡ false → kind t ≡ true → ⊥
@@ -151,8 +143,11 @@ slab-other kind a c s k x y set (t ∷ plan) (o ∷ orders) = elim (either (kind
     put true = ne_eqb s a x
     put false = ne_eqb s c y
 
-    step : (b : Bool) {x y : List Order} → x ≡ y → cond b (o ∷ x) x ≡ cond b (o ∷ y) y
-    step b e = ap (λ z. cond b (o ∷ z) z) e
+pub slab-other : (kind : ℕ → Bool) (a c s : ℕ) → kind s ≡ false → s ≢ a → s ≢ c →
+    (set : List Bool) (plan : List ℕ) (orders : List Order) →
+    slab s (split_plan kind set a c plan) orders ≡ slab s plan orders
+slab-other kind a c s k x y set plan orders =
+    ap (λ marks. chosen marks orders) (marks-other kind a c s k x y set plan)
 
 pub split-length : (kind : ℕ → Bool) (a c : ℕ) (set : List Bool) (plan : List ℕ) →
     length (split_plan kind set a c plan) ≡ length plan

@@ -3,10 +3,12 @@ pub mod LaidAnew
 pub mod Betters
 pub mod Held
 pub mod Scanned
+pub mod Elsewhere
+pub mod Timed
 pub mod Permuted
 pub mod Homes
 pub mod Grouped
 pub mod FileOrders
 pub mod Promise
-pub mod SameFile
+pub mod MovesPromise
 pub mod Walked

@@ -1,15 +1,15 @@
 -- Scans, pair by pair.
-use Rattle.std.proofs.Common.{ℕ, zero, suc, ◌+◌, ◌-◌, ◌*◌, ◌<◌, ◌≤◌, ◌≡◌, Bool, true, false, cond}
-use Rattle.std.proofs.Common.{◌&&◌, List, [], ◌∷◌, ◌++◌, length, take, leb, refl, sym, ap, ◌∙◌}
-use Rattle.std.proofs.Common.{arith, inl, inr, subst, leb-true, leb-false, mul-le-mul_right}
+use Rattle.std.proofs.Common.{ℕ, zero, suc, ◌+◌, ◌-◌, ◌*◌, ◌/◌, ◌<◌, ◌≤◌, ◌≡◌, Bool, true, false}
+use Rattle.std.proofs.Common.{cond, ◌&&◌, List, [], ◌∷◌, ◌++◌, length, take, leb, refl, sym, ap}
+use Rattle.std.proofs.Common.{◌∙◌, arith, inl, inr, subst, leb-true, leb-false, mul-le-mul_right}
 use Rattle.std.specs.List.{list_all}
 use Rattle.list_laws.specs.Sets.{holds}
 use Rattle.mill_model.specs.Pairs.{closed_pair, pair_loss, pair_orders, pair_at, pairs_with}
 use Rattle.mill_model.specs.Pairs.{pairs_below, pairs_of, first_closed, all_closed, sure_tries}
-use Rattle.list_laws.proofs.Tests.{and-left, and-right, either}
+use Rattle.list_laws.proofs.Tests.{and-left, and-right, either, last-or-below}
 use Rattle.pair_split.proofs.CheapestSplit.{splits-from}
 use Rattle.large_moves.specs.Laid.{Laid, laid_loss}
-use Rattle.large_moves.specs.Scans.{AreClosed, IsSpent, ClosesPairs, tries_left}
+use Rattle.large_moves.specs.Scans.{is_pair, AreClosed, IsSpent, ClosesPairs, tries_left}
 use Rattle.large_moves.specs.declared.closed.Closed.TheVariants.{Yes, Spent}
 
 abbrev Pairs : Type 0
@@ -30,6 +30,18 @@ all-append p [] ys a b = b
 all-append p (x ∷ xs) ys a b =
     let h = and-left (p x) (list_all p xs) a in
     rw h (all-append p xs ys (and-right (p x) (list_all p xs) a) b)
+
+all-left : (p : ℕ × ℕ → Bool) (xs ys : Pairs) → list_all p (xs ++ ys) ≡ true →
+    list_all p xs ≡ true
+all-left p [] ys h = refl
+all-left p (x ∷ xs) ys h =
+    let here = and-left (p x) (list_all p (xs ++ ys)) h in
+    rw here (all-left p xs ys (and-right (p x) (list_all p (xs ++ ys)) h))
+
+all-right : (p : ℕ × ℕ → Bool) (xs ys : Pairs) → list_all p (xs ++ ys) ≡ true →
+    list_all p ys ≡ true
+all-right p [] ys h = h
+all-right p (x ∷ xs) ys h = all-right p xs ys (and-right (p x) (list_all p (xs ++ ys)) h)
 
 all-take : (p : ℕ × ℕ → Bool) (r : ℕ) (xs ys : Pairs) → list_all p xs ≡ true → r ≤ length xs →
     list_all p (take r (xs ++ ys)) ≡ true
@@ -148,6 +160,25 @@ module _ (charge : ℕ → ℕ) (laid : Laid) where
       go true = rw h refl
       go false = refl
 
+  -- a pair of a row that is closed
+  pub closed-in-row : (a b n : ℕ) → AreClosed charge laid (pairs_with laid.plan a n) → b < n →
+      is_pair laid.plan a b ≡ true → closed_pair laid.mill charge laid.orders laid.plan a b ≡ true
+  closed-in-row a b zero closed within pair = absurd (omega arith)
+  closed-in-row a b (suc n) closed within pair = elim (last-or-below b n within) [
+    | inl e ↦ subst (λ k. closed_pair laid.mill charge laid.orders laid.plan a k ≡ true) (sym e)
+        (only n (is_pair laid.plan a n) (subst (λ k. is_pair laid.plan a k ≡ true) e pair)
+        (all-right (λ p. closed_pair laid.mill charge laid.orders laid.plan p.0 p.1)
+        (pairs_with laid.plan a n) (pair_at laid.plan a n) closed))
+    | inr l ↦ closed-in-row a b n (all-left (λ p. closed_pair laid.mill charge laid.orders
+        laid.plan p.0 p.1) (pairs_with laid.plan a n) (pair_at laid.plan a n) closed) l pair
+  ]
+    where
+      only : (k : ℕ) (pair : Bool) → pair ≡ true →
+          all_closed laid.mill charge laid.orders laid.plan (cond pair ((a, k) ∷ []) []) ≡ true →
+          closed_pair laid.mill charge laid.orders laid.plan a k ≡ true
+      only k true is h = and-left (closed_pair laid.mill charge laid.orders laid.plan a k) true h
+      only k false is h = absurd (cc)
+
   -- the first pairs are closed
   pub first-of-all : (r : ℕ) →
       all_closed laid.mill charge laid.orders laid.plan (pairs_of laid.plan) ≡ true →
@@ -262,13 +293,16 @@ two-triangle (suc n) =
     let e : suc n * suc (suc n) ≡ n * suc n + 2 * suc n = grind arith in
     omega (arith, ih, e)
 
-pub sure-is : (moves gain n : ℕ) → sure_tries moves gain n ≡ moves - gain * triangle n
-sure-is moves gain n =
+pub half-is : (gain n : ℕ) → gain * n * suc n / 2 ≡ gain * triangle n
+half-is gain n =
     let e : n * suc n ≡ 2 * triangle n = two-triangle n in
     let a : gain * n * suc n ≡ gain * (n * suc n) = grind arith in
     let b : gain * (n * suc n) ≡ gain * (2 * triangle n) = ap (λ x. gain * x) e in
     let d : gain * (2 * triangle n) ≡ 2 * (gain * triangle n) = grind arith in
     omega (arith, a, b, d)
+
+pub sure-is : (moves gain n : ℕ) → sure_tries moves gain n ≡ moves - gain * triangle n
+sure-is moves gain n = ap (λ x. moves - x) (half-is gain n)
 
 -- one try more of a plan that loses less
 pub tries-more : (moves left now start old new n pairs : ℕ) →
@@ -290,11 +324,13 @@ sure-left moves left start now n h =
 
 -- how a run of scans ends
 module _ (charge : ℕ → ℕ) (old new : Laid) (moves : ℕ)
-    (no_more : laid_loss charge new ≤ laid_loss charge old) where
+    (no_more : laid_loss charge new ≤ laid_loss charge old)
+    (kept : laid_loss charge new ≡ laid_loss charge old → new ≡ old) where
   pub all-closed : AreClosed charge new (pairs_of new.plan) →
       ClosesPairs charge old new moves Yes
   all-closed closed = record {
     no_more = no_more;
+    kept = kept;
     first = first-of-all charge new (tries_left charge old new moves) closed;
     all = λ e. closed;
     spent = λ e. absurd (yes-spent e);
@@ -312,6 +348,7 @@ module _ (charge : ℕ → ℕ) (old new : Laid) (moves : ℕ)
       (length new.orders) tries) in
       record {
         no_more = no_more;
+        kept = kept;
         first = first.0;
         all = λ e. absurd (spent-yes e);
         spent = λ e. first.1;

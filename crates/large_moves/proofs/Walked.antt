@@ -1,7 +1,6 @@
 -- What a walk over the orders by colour promises of those of the file.
-use Rattle.std.proofs.Common.{ℕ, ◌+◌, ◌<◌, ◌≤◌, ◌≡◌, List, [], ◌∷◌, length, get_or, sym, ap, ◌∙◌}
+use Rattle.std.proofs.Common.{ℕ, ◌<◌, ◌≤◌, ◌≡◌, List, [], ◌∷◌, length, get_or, sym, ap, ◌∙◌}
 use Rattle.std.proofs.Common.{arith, subst}
-use Rattle.std.specs.List.{All}
 use Rattle.std.proofs.lemmas.List.{length-map}
 use Rattle.std.proofs.lemmas.List.Sorted.{All-permutation}
 use Rattle.mill_model.specs.Instance.{AreSizesOf, IsOrder, IsSize, IsWithin, largest}
@@ -13,7 +12,7 @@ use Rattle.mill_model.specs.declared.plan.Start.{Start}
 use Rattle.mill_model.proofs.RisingLists.{same_sizes}
 use Rattle.order_symmetry.specs.Ranked.{RankedOrders, IsRanked}
 use Rattle.large_moves.specs.Coloured.{orders_of, plan_of, IsByColour}
-use Rattle.large_moves.specs.Moved.{IsStart, IsWalked}
+use Rattle.large_moves.specs.Moved.{IsNoWorse}
 use Rattle.large_moves.specs.declared.coloured.Coloured.{Coloured}
 use Rattle.large_moves.proofs.FileOrders.{by-rank, count, same-orders, same-loss, legal-in-file}
 
@@ -50,15 +49,15 @@ module _ (ranked : RankedOrders) (known : IsRanked ranked) (coloured : List Colo
   }
 
 module _ (mill : Mill) (charge : ℕ → ℕ) (orders : List Order) where
-  pub stays : (start : Start) → IsStart mill charge orders start →
-      IsWalked mill charge orders start start
+  pub stays : (start : Start) → IsPlanWithLoss mill charge orders start.plan start.loss →
+      IsNoWorse mill charge orders start start
   stays start h = record { start = h; no_more = omega arith }
 
   -- a plan of the orders by colour that loses less
   pub walked : (coloured : List Coloured) → IsByColour (rank orders) coloured →
       (before after : Start) → length after.plan ≡ length orders →
       IsPlanWithLoss mill charge (orders_of coloured) (plan_of coloured after.plan) after.loss →
-      after.loss < before.loss → IsWalked mill charge orders before after
+      after.loss < before.loss → IsNoWorse mill charge orders before after
   walked coloured by before after long found less = record {
     start = record {
       legal = legal-in-file orders coloured by after.plan long mill found.legal;

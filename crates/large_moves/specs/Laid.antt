@@ -1,5 +1,6 @@
 -- Orders that lie on the slabs of a mill, as a mover holds them.
-use Rattle.std.specs.Prelude.{ℕ, ◌<◌, ◌≤◌, ◌≡◌, Bool, true, List, All, length, slice_index}
+use Rattle.std.specs.Prelude.{ℕ, ◌<◌, ◌≤◌, ◌≡◌, ◌≢◌, Bool, true, List, All, map, length, eqb}
+use Rattle.std.specs.Prelude.{slice_index}
 use Rattle.mill_model.specs.Instance.{IsOrder}
 use Rattle.mill_model.specs.Plan.{slab, loss, IsLegalPlan}
 use Rattle.mill_model.specs.Slab.{Mill, load}
@@ -28,6 +29,11 @@ pub record SameOrders (old new : Laid) : Type 0 where
 
 abbrev pub laid_loss : (ℕ → ℕ) → Laid → ℕ
 laid_loss charge laid = loss charge laid.plan laid.orders
+
+-- on all slabs but two, the same orders lie as before
+abbrev pub StayElsewhere : ℕ → ℕ → List ℕ → List ℕ → Type 0
+StayElsewhere a c plan new =
+    (s : ℕ) → s ≢ a → s ≢ c → map (λ t. eqb s t) new ≡ map (λ t. eqb s t) plan
 
 -- the loads of the slabs of a plan, by their numbers
 pub record AreLoads (orders : List Order) (plan loads : List ℕ) : Type 0 where

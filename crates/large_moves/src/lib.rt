@@ -5,13 +5,13 @@
 mod by_colour;
 mod closed;
 mod coloured;
+pub mod laws;
 mod mover;
 mod moves;
 mod pair;
 mod scan;
 mod slabs;
-#[cfg(test)]
-mod tests;
+mod tries;
 mod walking;
 
 pub use closed::Closed;

@@ -1,20 +1,22 @@
-//! Scans of pairs of slabs: each pair is tried in turn, and after each change from the first on.
-ghost use Rattle.std.specs.Prelude.{◌≡◌, ◌+◌, ◌<◌, ◌≤◌, ◌&&◌, false, true, leb, length};
-ghost use Rattle.std.specs.Prelude.{slice_index, IfOk};
+//! Scans of pairs of slabs: each pair is tried in turn, and after each change from the first on,
+//! but for pairs that were closed and haven't changed since.
+ghost use Rattle.std.specs.Prelude.{◌≡◌, ◌+◌, ◌<◌, ◌≤◌, true, length, slice_index};
+ghost use Rattle.std.specs.Prelude.{IfOk, IfSome, IfNone};
 ghost use Rattle.mill_model.specs.Charges.{Reaches, charge_of};
 ghost use Rattle.mill_model.specs.Pairs.{pair_at, pairs_with, pairs_of, pair_loss, closed_pair};
 ghost use Rattle.mill_model.specs.Plan.{slab, IsLegalPlan};
 ghost use Rattle.list_laws.specs.Sets.{holds};
 ghost use Rattle.mill_model.specs.Slab.{load};
 ghost use Rattle.large_moves.specs.Coloured.{IsByColour, AreHomes, orders_of, plan_of, homes_of};
-ghost use Rattle.large_moves.specs.Laid.{SameOrders, IsLaid, laid_loss};
-ghost use Rattle.large_moves.specs.Scans.{IsScan, ClosesPairs};
+ghost use Rattle.large_moves.specs.Laid.{SameOrders, StayElsewhere, IsLaid, laid_loss};
+ghost use Rattle.large_moves.specs.Scans.{is_pair, IsScan, AreTimesOf, ClosesPairs};
 
 use crate::by_colour::{orders_alone, read_plan};
 use crate::closed::Closed;
 use crate::coloured::Coloured;
-use crate::pair::try_split;
+use crate::pair::{ChargedOrders, Pair, try_split};
 use crate::scan::Scan;
+use crate::tries::Tries;
 use mill_model::{Charges, Order, OutOfMemory};
 use order_symmetry::Ranked;
 use pair_split::Splitter;
@@ -120,7 +122,7 @@ impl Mover {
     fn is_pair(&self, a: u16, b: u16) -> bool
         requires first { a < length self.now.orders }
         requires second { b < length self.now.orders }
-        ensures { result ≡ (leb a b && (holds a self.now.plan && holds b self.now.plan)) }
+        ensures { result ≡ is_pair self.now.plan a b }
     {
         a <= b && self.is_used(a) && self.is_used(b)
     }
@@ -149,101 +151,119 @@ impl Mover {
         first + second
     }
 
-    // Lays the orders of a pair anew, where a split of them loses less than they do; whether it
-    // does.
-    fn try_pair(&mut self, charges: &Charges, a: u16, b: u16, bound: u64) -> bool
+    // Lays the orders of a pair anew, where a split of them loses less than they do; the slab
+    // besides the first that changes.
+    fn try_pair(&mut self, charges: &Charges, pair: Pair) -> Option<u16>
         requires reach { Reaches charges.now self.old.mill }
-        requires rise { a ≤ b }
-        requires second { b < length self.old.orders }
-        requires used { holds a self.old.plan ≡ true }
-        requires bound { bound ≡ pair_loss (charge_of charges.now) self.old.orders
-            self.old.plan a b }
+        requires rise { pair.first ≤ pair.second }
+        requires second { pair.second < length self.old.orders }
+        requires used { holds pair.first self.old.plan ≡ true }
+        requires loss { pair.loss ≡ pair_loss (charge_of charges.now) self.old.orders
+            self.old.plan pair.first pair.second }
         ensures same { SameOrders self.old self.new }
-        ensures kept { result ≡ false → self.new ≡ self.old }
-        ensures closed { result ≡ false → closed_pair self.old.mill
-            (charge_of charges.now) self.old.orders self.old.plan a b ≡ true }
-        ensures less { result ≡ true → laid_loss (charge_of charges.now) self.new
-            < laid_loss (charge_of charges.now) self.old }
+        ensures kept { IfNone result (self.new ≡ self.old) }
+        ensures closed { IfNone result (closed_pair self.old.mill
+            (charge_of charges.now) self.old.orders self.old.plan pair.first pair.second ≡ true) }
+        ensures less { IfSome result (λ c. laid_loss (charge_of charges.now) self.new
+            < laid_loss (charge_of charges.now) self.old) }
+        ensures second { IfSome result (λ c. c < length self.old.orders) }
+        ensures stay { IfSome result (λ c. StayElsewhere pair.first c self.old.plan
+            self.new.plan) }
     {
         try_split(
             &mut self.splitter,
             &mut self.items,
             &mut self.marks,
-            charges,
-            &self.orders,
+            &ChargedOrders {
+                list: &self.orders,
+                charges,
+            },
             &mut self.plan,
             &mut self.loads,
-            a,
-            b,
-            bound,
+            pair,
         )
     }
 
-    // Tries a pair of slabs, if they are one that loses anything.
-    fn scan_pair(&mut self, charges: &Charges, a: u16, b: u16, left: u64) -> Scan
+    // Tries a pair of slabs, if they are one that loses anything and isn't known to be closed.
+    fn scan_pair(&mut self, charges: &Charges, tries: &mut Tries, a: u16, b: u16) -> Scan
         requires reach { Reaches charges.now self.old.mill }
         requires first { a < length self.old.orders }
         requires second { b < length self.old.orders }
+        requires times { AreTimesOf (charge_of charges.now) self.old tries.old }
         ensures same { SameOrders self.old self.new }
+        ensures times { AreTimesOf (charge_of charges.now) self.new tries.new }
         ensures scan { IsScan (charge_of charges.now) self.old self.new
-            (pair_at self.old.plan a b) left result }
+            (pair_at self.old.plan a b) tries.old.left tries.new.left result }
     {
         if !self.is_pair(a, b) {
-            return Scan::Done(left);
+            return Scan::Done;
         }
-        let bound = self.pair_loss(charges, a, b);
-        if bound == 0 {
-            return Scan::Done(left);
+        if tries.needs_none(a, b) {
+            return Scan::Done;
         }
-        if left == 0 {
+        let loss = self.pair_loss(charges, a, b);
+        if loss == 0 {
+            return Scan::Done;
+        }
+        if tries.left() == 0 {
             return Scan::Spent;
         }
-        if self.try_pair(charges, a, b, bound) {
-            Scan::Changed(left - 1)
-        } else {
-            Scan::Done(left - 1)
-        }
+        let pair = Pair {
+            first: a,
+            second: b,
+            loss,
+        };
+        let Some(c) = self.try_pair(charges, pair) else {
+            tries.spend();
+            return Scan::Done;
+        };
+        tries.change(a, c);
+        Scan::Changed
     }
 
     // Tries the pairs of slab `a`.
-    fn scan_row(&mut self, charges: &Charges, a: u16, tries: u64) -> Scan
+    fn scan_row(&mut self, charges: &Charges, tries: &mut Tries, a: u16) -> Scan
         requires reach { Reaches charges.now self.old.mill }
         requires first { a < length self.old.orders }
+        requires times { AreTimesOf (charge_of charges.now) self.old tries.old }
         ensures same { SameOrders self.old self.new }
+        ensures times { AreTimesOf (charge_of charges.now) self.new tries.new }
         ensures scan { IsScan (charge_of charges.now) self.old self.new
-            (pairs_with self.old.plan a (length self.old.plan)) tries result }
+            (pairs_with self.old.plan a (length self.old.plan)) tries.old.left tries.new.left
+            result }
     {
         if !self.is_used(a) {
-            return Scan::Done(tries);
+            return Scan::Done;
         }
-        let mut left = tries;
         for b in a..self.len() {
-            match self.scan_pair(charges, a, b, left) {
-                Scan::Done(now) => left = now,
+            match self.scan_pair(charges, tries, a, b) {
+                Scan::Done => {}
                 Scan::Spent => return Scan::Spent,
-                Scan::Changed(now) => return Scan::Changed(now),
+                Scan::Changed => return Scan::Changed,
             }
         }
-        Scan::Done(left)
+        tries.close_row(a);
+        Scan::Done
     }
 
     // Tries all pairs.
-    fn scan(&mut self, charges: &Charges, tries: u64) -> Scan
+    fn scan(&mut self, charges: &Charges, tries: &mut Tries) -> Scan
         requires reach { Reaches charges.now self.old.mill }
+        requires times { AreTimesOf (charge_of charges.now) self.old tries.old }
         ensures same { SameOrders self.old self.new }
+        ensures times { AreTimesOf (charge_of charges.now) self.new tries.new }
         ensures scan { IsScan (charge_of charges.now) self.old self.new
-            (pairs_of self.old.plan) tries result }
+            (pairs_of self.old.plan) tries.old.left tries.new.left result }
         ensures each { length self.old.plan ≡ length self.old.orders }
     {
-        let mut left = tries;
         for a in 0..self.len() {
-            match self.scan_row(charges, a, left) {
-                Scan::Done(now) => left = now,
+            match self.scan_row(charges, tries, a) {
+                Scan::Done => {}
                 Scan::Spent => return Scan::Spent,
-                Scan::Changed(now) => return Scan::Changed(now),
+                Scan::Changed => return Scan::Changed,
             }
         }
-        Scan::Done(left)
+        Scan::Done
     }
 
     // How many orders there are.
@@ -254,19 +274,19 @@ impl Mover {
         self.plan.len() as u16
     }
 
-    /// Moves until all pairs are closed, or the moves are spent.
-    pub fn close(&mut self, charges: &Charges, moves: u64) -> Closed
+    /// Moves until all pairs are closed, or the tries are spent.
+    pub fn close(&mut self, charges: &Charges, tries: &mut Tries) -> Closed
         requires reach { Reaches charges.now self.old.mill }
+        requires times { AreTimesOf (charge_of charges.now) self.old tries.old }
         ensures same { SameOrders self.old self.new }
-        ensures moved { ClosesPairs (charge_of charges.now) self.old self.new moves
+        ensures moved { ClosesPairs (charge_of charges.now) self.old self.new tries.old.left
             result }
     {
-        let mut left = moves;
         loop {
-            match self.scan(charges, left) {
-                Scan::Done(_) => return Closed::Yes,
+            match self.scan(charges, tries) {
+                Scan::Done => return Closed::Yes,
                 Scan::Spent => return Closed::Spent,
-                Scan::Changed(now) => left = now,
+                Scan::Changed => {}
             }
         }
     }

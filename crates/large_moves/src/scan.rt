@@ -1,10 +1,10 @@
 /// What a scan of pairs comes to.
 #[derive(Clone, Copy, Debug)]
 pub enum Scan {
-    /// All are closed, and so many tries are left.
-    Done(u64),
+    /// All are closed.
+    Done,
     /// The tries were spent before the last pair.
     Spent,
-    /// A pair was not closed, and its orders lie anew; so many tries are left.
-    Changed(u64),
+    /// A pair was not closed, and its orders lie anew.
+    Changed,
 }

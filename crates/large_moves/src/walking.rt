@@ -1,11 +1,11 @@
 ghost use Rattle.std.specs.Prelude.{◌≡◌, ◌<◌, ◌≤◌, ◌+◌, List, IfOk, length, true};
 ghost use Rattle.mill_model.specs.Charges.{Reaches, charge_of};
 ghost use Rattle.mill_model.specs.Instance.{mill_of};
-ghost use Rattle.mill_model.specs.Plan.{IsLegalPlan};
+ghost use Rattle.mill_model.specs.Plan.{IsPlanWithLoss};
 ghost use Rattle.mill_model.specs.Rank.{rank};
 ghost use Rattle.mill_model.specs.declared.order.Order.{Order};
 ghost use Rattle.large_moves.specs.Coloured.{IsByColour, orders_of, plan_of};
-ghost use Rattle.large_moves.specs.Moved.{IsStart, IsWalked};
+ghost use Rattle.large_moves.specs.Moved.{IsNoWorse};
 
 use crate::by_colour::{by_colour, orders_alone, put_back, read_plan};
 use crate::coloured::Coloured;
@@ -28,10 +28,10 @@ pub fn walk(
 ) -> Result<Start, OutOfMemory>
     requires reach { Reaches charges.now ranked.now.mill }
     requires start { (orders : List Order) → ranked.now.placed ≡ rank orders →
-        IsStart ranked.now.mill (charge_of charges.now) orders start }
-    ensures walked { IfOk result (λ walked. (orders : List Order) →
+        IsPlanWithLoss ranked.now.mill (charge_of charges.now) orders start.plan start.loss }
+    ensures no_worse { IfOk result (λ walked. (orders : List Order) →
         ranked.now.placed ≡ rank orders →
-        IsWalked ranked.now.mill (charge_of charges.now) orders start walked) }
+        IsNoWorse ranked.now.mill (charge_of charges.now) orders start walked) }
     ensures kept { IfOk result (λ walked. walked.loss ≡ start.loss → walked ≡ start) }
 {
     let coloured = by_colour(alloc, ranked)?;

@@ -3,34 +3,14 @@ ghost use Rattle.std.specs.Prelude.{◌≡◌, ◌≤◌, true, length, ltb, IfO
 ghost use Rattle.std.specs.List.{list_all};
 ghost use Rattle.mill_model.specs.Charges.{Reaches, charge_of};
 ghost use Rattle.mill_model.specs.Instance.{mill_of};
-ghost use Rattle.mill_model.specs.Plan.{numbers_each};
-ghost use Rattle.large_moves.specs.Moved.{IsStart};
+ghost use Rattle.mill_model.specs.Plan.{numbers_each, IsPlanWithLoss};
 
+use crate::starts::start_at;
 use large_moves::walk;
 use mill_model::{Charges, Instance, Order, OutOfMemory, Plan, Start};
 use order_symmetry::Ranked;
-use plan_check::{Verdict, judge};
 use std::alloc::Global;
 use std::test::Fail;
-
-// A start at these slabs, if they make a legal plan.
-fn start_at(
-    alloc: Global,
-    instance: &Instance,
-    charges: &Charges,
-    slabs: Vec<u16>,
-) -> Result<Option<Start>, OutOfMemory>
-    requires each { numbers_each slabs.items instance.now.orders ≡ true }
-    requires reach { Reaches charges.now (mill_of instance.now) }
-    ensures { IfOk result (λ found. IfSome found (IsStart (mill_of instance.now)
-        (charge_of charges.now) instance.now.orders)) }
-{
-    let plan = Plan::from_list(slabs);
-    if let Verdict::Legal { loss } = judge(alloc, instance, charges, &plan)? {
-        return Ok(Some(Start { plan, loss }));
-    }
-    Ok(None)
-}
 
 // What so many steps make of these slabs, if they make a legal plan.
 fn walked(

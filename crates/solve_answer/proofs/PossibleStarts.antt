@@ -1,57 +1,40 @@
 -- A plan that moves leave is a possible start. Its first pairs are closed, as many as the moves are
 -- sure to reach by what these moves gained; and the more was gained before them, the fewer need be.
-use Rattle.std.proofs.Common.{ℕ, suc, ◌-◌, ◌*◌, ◌≤◌, ◌≡◌, true, List, [], ◌∷◌, length, take}
-use Rattle.std.proofs.Common.{subst, arith, mul-le-mul_right}
+use Rattle.std.proofs.Common.{ℕ, suc, ◌-◌, ◌≤◌, List, [], ◌∷◌, length}
+use Rattle.std.proofs.Common.{arith}
 use Rattle.std.specs.Prelude.{All}
 use Rattle.std.specs.List.{AllByRecursion}
 use Rattle.std.proofs.lemmas.List.Elements.{All-map, All-from_recursion}
 use Rattle.std.proofs.lemmas.List.Elements.{recursion_from_All}
-use Rattle.std.proofs.lemmas.List.{take-take}
-use Rattle.mill_model.specs.Pairs.{IsPossibleStart, all_closed, first_closed, pairs_of, sure_tries}
+use Rattle.mill_model.specs.Pairs.{IsPossibleStart}
 use Rattle.mill_model.specs.Plan.{loss}
 use Rattle.mill_model.specs.Rank.{placed_from, rank, ranked_orders}
 use Rattle.mill_model.specs.Slab.{Mill}
 use Rattle.mill_model.specs.Starts.{best_start_loss}
 use Rattle.mill_model.specs.declared.order.Order.{Order}
 use Rattle.mill_model.specs.declared.plan.Start.{Start}
-use Rattle.large_moves.specs.Moved.{IsMoved}
+use Rattle.large_moves.specs.Moved.{IsNoWorse, HasClosed}
 use Rattle.large_moves.specs.declared.closed.Closed.{Closed}
-use Rattle.large_moves.proofs.Scanned.{all-take-any, sure-is, triangle}
+use Rattle.large_moves.proofs.MovesPromise.{fewer-closed, fewer-tries}
 use Rattle.order_symmetry.proofs.Ranks.{rank-each}
 
--- the more is gained, the fewer tries are sure to be left
-fewer-tries : (moves gain more n : ℕ) → gain ≤ more →
-    sure_tries moves more n ≤ sure_tries moves gain n
-fewer-tries moves gain more n up =
-    let here = sure-is moves gain n in
-    let there = sure-is moves more n in
-    let times : gain * triangle n ≤ more * triangle n = mul-le-mul_right (triangle n) up in
-    omega (arith, here, there, times)
-
 module _ (mill : Mill) (charge : ℕ → ℕ) (orders : List Order) (moves : ℕ) where
-  -- of the first pairs the first ones are closed
-  fewer-closed : (plan : List ℕ) (few many : ℕ) → few ≤ many →
-      first_closed mill charge orders plan many ≡ true →
-      first_closed mill charge orders plan few ≡ true
-  fewer-closed plan few many up closed =
-      subst (λ pairs. all_closed mill charge orders plan pairs ≡ true)
-      (take-take few many (pairs_of plan) up)
-      (all-take-any _ few (take many (pairs_of plan)) closed)
-
   pub moved-is-possible : (before after : Start) (closed : Closed) →
       before.loss ≤ best_start_loss mill charge (ranked_orders orders) →
-      IsMoved mill charge orders moves before after closed →
+      IsNoWorse mill charge orders before after →
+      HasClosed mill charge orders moves before after closed →
       IsPossibleStart mill charge orders moves after.plan
-  moved-is-possible before after closed greedy moved =
-      let loses = moved.start.loses in
-      let no_more = moved.no_more in
+  moved-is-possible before after closed greedy no_worse has_closed =
+      let loses = no_worse.start.loses in
+      let no_more = no_worse.no_more in
       let most : ℕ = best_start_loss mill charge (ranked_orders orders) in
       record {
-        is_legal = moved.start.legal;
+        is_legal = no_worse.start.legal;
         at_most = omega (arith, loses, no_more, greedy);
-        closed = fewer-closed after.plan _ _ (fewer-tries moves (before.loss - after.loss)
+        closed = fewer-closed mill charge orders after.plan _ _ (fewer-tries moves (before.loss -
+            after.loss)
             (most - loss charge after.plan orders) (length orders)
-            (omega (arith, loses, no_more, greedy))) moved.first;
+            (omega (arith, loses, no_more, greedy))) has_closed.first;
       }
 
 -- what holds of each order holds of each in rank

@@ -1,5 +1,5 @@
 -- Where the search of a problem's tree begins, and what is answered when it ends.
-use Rattle.std.specs.Prelude.{ℕ, ◌≡◌, List, [], ◌∷◌, Option}
+use Rattle.std.specs.Prelude.{ℕ, List, [], ◌∷◌, Option}
 use Rattle.mill_model.specs.Best.{IsStartOf}
 use Rattle.mill_model.specs.Charges.{charge_of}
 use Rattle.mill_model.specs.Instance.{Problem, mill_of, loss_charge}

@@ -1,16 +1,21 @@
 -- The file's orders stand by colour as in rank, so what is closed by colour is closed in the file.
-use Rattle.std.proofs.Common.{◌≡◌, ℕ, List, length, subst, sym, ap, ◌∙◌}
+use Rattle.std.proofs.lemmas.List.{length-map}
+use Rattle.std.proofs.Common.{◌≡◌, List, length, subst, sym, ap, ◌∙◌, rules}
 use Rattle.mill_model.specs.Charges.{charge_of}
 use Rattle.mill_model.specs.Plan.{IsLegalPlan}
 use Rattle.mill_model.specs.Rank.{rank}
+use Rattle.mill_model.specs.declared.order.Order.{Order}
 use Rattle.large_moves.specs.Coloured.{AreHomes, homes_of, orders_of, plan_of, IsByColour}
-use Rattle.large_moves.specs.Laid.{Laid, laid_loss}
+use Rattle.large_moves.specs.Laid.{Laid}
 use Rattle.large_moves.specs.declared.coloured.Coloured.{Coloured}
+use Rattle.large_moves.specs.Moved.{IsNoWorse, HasClosed}
 use Rattle.large_moves.specs.Scans.{ClosesPairs}
 use Rattle.large_moves.proofs.Betters.{plan-length}
 use Rattle.large_moves.proofs.FileOrders.{by-rank, homes, count, legal-here}
-use Rattle.large_moves.proofs.Promise.{moved}
+use Rattle.large_moves.proofs.Promise.{moved-in-file, unmoved-in-file, laid-from}
+use Rattle.large_moves.proofs.Timed.{first-times}
 use Rattle.large_moves.proofs.moves.pair_moves.Goals as goal
+use Rattle.large_moves.proofs.moves.pair_moves.Goals.{After-drop-start-2}
 
 pub new-requires-clause-homes : goal.new-requires-clause-homes
 new-requires-clause-homes c =
@@ -51,54 +56,81 @@ put_back-requires-clause-homes c =
     (sym (count known.problem.orders c.in_ok-coloured.coloured.items by))
     (homes known.problem.orders c.in_ok-coloured.coloured.items by))
 
-pub returns : goal.returns
-returns c orders placed =
-    let charge : ℕ → ℕ = charge_of c.args.charges.now in
-    let mill = c.args.ranked.now.mill in
+pub close-closed-requires-clause-times : goal.close-closed-requires-clause-times
+close-closed-requires-clause-times c =
+    let orders_is : c.in_ok-mover.mover.orders ≡ orders_of c.deref.result.now =
+    ap (λ (laid : Laid). laid.orders) c.in_ok-mover.ensures in
+    let count : c.len.result ≡ length c.in_ok-coloured.coloured.items = search rules in
+    let long : c.len.result ≡ length (orders_of c.deref.result.now) = count
+    ∙ sym (ap (λ (cs : List Coloured). length cs) c.deref.ensures.value)
+    ∙ sym (length-map c.deref.result.now (λ c. c.order)) in
+    first-times (charge_of c.args.charges.now) c.in_ok-mover.mover c.in_ok-tries.tries
+    (c.in_ok-tries.ensures.slabs ∙ long ∙ sym (ap length orders_is))
+    c.in_ok-tries.ensures.none
+
+pub put_back-requires-clause-plan : goal.put_back-requires-clause-plan
+put_back-requires-clause-plan c =
+    let laid = c.plan.ensures.kept in
+    let begins = c.in_ok-mover.ensures ∙ laid-from c.args.ranked.now.mill
+    c.in_ok-coloured.coloured.items c.deref.result.now c.args.start.plan c.slabs.result.now
+    c.deref.ensures.value c.slabs.ensures in
+    ap length c.plan.ensures.is
+    ∙ plan-length c.close-closed.new.self.mill c.close-closed.new.self.orders
+    c.close-closed.new.self.plan laid.is_legal
+    ∙ ap length (c.close-closed.ensures.same.orders ∙ ap (λ (laid : Laid). laid.orders) begins)
+    ∙ length-map c.in_ok-coloured.coloured.items (λ c. c.order)
+    ∙ sym (ap (λ (cs : List Coloured). length cs) c.deref-2.ensures.value)
+
+pub returns-then-loss-start-clause-closed : goal.returns-then-loss-start-clause-closed
+returns-then-loss-start-clause-closed c orders placed =
+    let by : IsByColour (rank orders) c.in_ok-coloured.coloured.items =
+    subst (λ ranked. IsByColour ranked c.in_ok-coloured.coloured.items) placed
+    c.in_ok-coloured.ensures.sorted in
+    let start = c.requires.start orders placed in
+    unmoved-in-file c.args.ranked.now.mill (charge_of c.args.charges.now) orders
+    c.in_ok-coloured.coloured.items by c.args.moves c.args.start c.close-closed.result
+    (plan-length c.args.ranked.now.mill orders c.args.start.plan start.legal)
+    c.in_ok-mover.mover c.close-closed.new.self
+    (c.in_ok-mover.ensures ∙ laid-from c.args.ranked.now.mill
+    c.in_ok-coloured.coloured.items c.deref.result.now c.args.start.plan c.slabs.result.now
+    c.deref.ensures.value c.slabs.ensures) start
+    (subst (λ moves. ClosesPairs (charge_of c.args.charges.now) c.in_ok-mover.mover
+    c.close-closed.new.self moves c.close-closed.result) c.in_ok-tries.ensures.left
+    c.close-closed.ensures.moved) c.close-closed.ensures.same
+    (sym c.if-loss-start.true ∙ c.loss-loss.ensures)
+
+promise : (c : After-drop-start-2) (orders : List Order) → c.args.ranked.now.placed ≡ rank orders →
+    IsNoWorse c.args.ranked.now.mill (charge_of c.args.charges.now) orders c.args.start
+    (record { plan = c.in_ok-plan.plan; loss = c.loss-loss.result })
+    × HasClosed c.args.ranked.now.mill (charge_of c.args.charges.now) orders c.args.moves
+    c.args.start (record { plan = c.in_ok-plan.plan; loss = c.loss-loss.result })
+    c.close-closed.result
+promise c orders placed =
     let coloured = c.in_ok-coloured.coloured.items in
     let by : IsByColour (rank orders) c.in_ok-coloured.coloured.items =
     subst (λ ranked. IsByColour ranked c.in_ok-coloured.coloured.items) placed
     c.in_ok-coloured.ensures.sorted in
     let start = c.requires.start orders placed in
-    let long_before = plan-length mill orders c.args.start.plan start.legal in
     let long_after : length c.in_ok-plan.plan ≡ length orders =
     c.in_ok-plan.ensures.count ∙ ap (λ (cs : List Coloured). length cs) c.deref-2.ensures.value
     ∙ count orders coloured by in
-    let old_is : c.in_ok-mover.mover ≡ record {
-      mill = c.args.ranked.now.mill;
-      orders = orders_of c.in_ok-coloured.coloured.items;
-      plan = plan_of c.in_ok-coloured.coloured.items c.args.start.plan;
-    } = c.in_ok-mover.ensures ∙ (λ i. record {
-      mill = c.args.ranked.now.mill;
-      orders = orders_of (c.deref.ensures.value i);
-      plan = plan_of (c.deref.ensures.value i) (c.slabs.ensures i);
-    }) in
-    let same = c.close-closed.ensures.same in
-    let mill_is : c.close-closed.new.self.mill ≡ c.args.ranked.now.mill =
-    same.mill ∙ ap (λ (l : Laid). l.mill) old_is in
-    let orders_is : c.close-closed.new.self.orders ≡ orders_of c.in_ok-coloured.coloured.items =
-    same.orders ∙ ap (λ (l : Laid). l.orders) old_is in
-    let plan_is : c.close-closed.new.self.plan
-    ≡ plan_of c.in_ok-coloured.coloured.items c.in_ok-plan.plan =
-    sym c.plan.ensures.is ∙ sym c.in_ok-plan.ensures.back
-    ∙ ap (λ cs. plan_of cs c.in_ok-plan.plan) c.deref-2.ensures.value in
-    let new_is : c.close-closed.new.self ≡ record {
-      mill = c.args.ranked.now.mill;
-      orders = orders_of c.in_ok-coloured.coloured.items;
-      plan = plan_of c.in_ok-coloured.coloured.items c.in_ok-plan.plan;
-    } = λ i. record { mill = mill_is i; orders = orders_is i; plan = plan_is i } in
-    moved mill charge orders coloured by c.args.moves c.args.start
+    moved-in-file c.args.ranked.now.mill (charge_of c.args.charges.now) orders
+    c.in_ok-coloured.coloured.items by c.args.moves c.args.start
     (record { plan = c.in_ok-plan.plan; loss = c.loss-loss.result }) c.close-closed.result
-    long_before long_after start
-    (subst (λ (l : Laid). IsLegalPlan l.mill l.orders l.plan) new_is
-    c.plan.ensures.kept.is_legal)
-    (c.loss-loss.ensures ∙ ap (λ (l : Laid). laid_loss (charge_of c.args.charges.now) l)
-    new_is)
-    (subst (λ (l : Laid). ClosesPairs (charge_of c.args.charges.now) (record {
-      mill = c.args.ranked.now.mill;
-      orders = orders_of c.in_ok-coloured.coloured.items;
-      plan = plan_of c.in_ok-coloured.coloured.items c.args.start.plan;
-    }) l c.args.moves c.close-closed.result) new_is
-    (subst (λ (l : Laid). ClosesPairs (charge_of c.args.charges.now) l
-    c.close-closed.new.self c.args.moves c.close-closed.result) old_is
-    c.close-closed.ensures.moved))
+    (plan-length c.args.ranked.now.mill orders c.args.start.plan start.legal) long_after
+    c.in_ok-mover.mover c.close-closed.new.self
+    (c.in_ok-mover.ensures ∙ laid-from c.args.ranked.now.mill
+    c.in_ok-coloured.coloured.items c.deref.result.now c.args.start.plan c.slabs.result.now
+    c.deref.ensures.value c.slabs.ensures) start
+    (subst (λ moves. ClosesPairs (charge_of c.args.charges.now) c.in_ok-mover.mover
+    c.close-closed.new.self moves c.close-closed.result) c.in_ok-tries.ensures.left
+    c.close-closed.ensures.moved) c.close-closed.ensures.same
+    (sym c.plan.ensures.is ∙ sym c.in_ok-plan.ensures.back
+    ∙ ap (λ cs. plan_of cs c.in_ok-plan.plan) c.deref-2.ensures.value)
+    c.plan.ensures.kept.is_legal c.loss-loss.ensures
+
+pub returns-clause-no_worse : goal.returns-clause-no_worse
+returns-clause-no_worse c orders placed = (promise c orders placed).0
+
+pub returns-clause-closed : goal.returns-clause-closed
+returns-clause-closed c orders placed = (promise c orders placed).1

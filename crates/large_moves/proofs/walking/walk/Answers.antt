@@ -74,8 +74,8 @@ put_back-requires-clause-plan c =
     ∙ ap (λ (cs : List Coloured). length cs) c.deref.ensures.value
     ∙ sym (ap (λ (cs : List Coloured). length cs) c.deref-3.ensures.value)
 
-pub returns-clause-walked : goal.returns-clause-walked
-returns-clause-walked c orders placed =
+pub returns-clause-no_worse : goal.returns-clause-no_worse
+returns-clause-no_worse c orders placed =
     let charge : ℕ → ℕ = charge_of c.args.charges.now in
     let coloured = c.in_ok-coloured.coloured.items in
     let by : IsByColour (rank orders) c.in_ok-coloured.coloured.items =

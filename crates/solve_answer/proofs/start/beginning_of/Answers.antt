@@ -1,8 +1,8 @@
 -- The rank's mill is the problem's, and the table's charge is that of the definition, so what is
 -- said of the start by the ones holds by the others.
-use Rattle.std.proofs.Common.{◌≤◌, ◌≡◌, ℕ, sym, subst}
+use Rattle.std.proofs.Common.{◌≤◌, sym, subst}
 use Rattle.mill_model.specs.Charges.{Reaches, charge_of}
-use Rattle.mill_model.specs.Instance.{largest, mill_of, loss_charge}
+use Rattle.mill_model.specs.Instance.{largest, mill_of}
 use Rattle.mill_model.specs.Pairs.{IsPossibleStart}
 use Rattle.mill_model.specs.Plan.{IsPlanWithLoss}
 use Rattle.instance_facts.proofs.Charged.{table-is-charge}

@@ -1,6 +1,6 @@
 -- The greedy plan loses the most that a possible start may lose, and neither moves nor the walk
 -- raise that; so what moves leave is a possible start, also behind the walk.
-use Rattle.std.proofs.Common.{◌≡◌, ◌≤◌, ℕ, map, ap, ◌∙◌, arith}
+use Rattle.std.proofs.Common.{◌≡◌, ℕ, map, ap, ◌∙◌, arith}
 use Rattle.mill_model.specs.Charges.{charge_of}
 use Rattle.mill_model.specs.Rank.{ranked_orders}
 use Rattle.mill_model.specs.Starts.{best_start_loss}
@@ -20,8 +20,8 @@ returns-clause-possible c orders placed =
     let greedy : c.in_ok-greedy.greedy.loss ≡ best_start_loss mill charge (ranked_orders orders) =
     c.in_ok-greedy.ensures.least
     ∙ ap (λ list. best_start_loss mill charge (map (λ p. p.order) list)) placed in
-    let moved = (c.in_ok-moved.ensures orders placed).no_more in
-    let walked = (c.in_ok-walked.ensures.walked orders placed).no_more in
+    let moved = (c.in_ok-moved.ensures.no_worse orders placed).no_more in
+    let walked = (c.in_ok-walked.ensures.no_worse orders placed).no_more in
     moved-is-possible mill charge orders c.args.moves c.in_ok-walked.walked c.in_ok-start.start
     c.in_ok-start.field-0-1 (omega (arith, greedy, moved, walked))
-    (c.in_ok-start.ensures orders placed)
+    (c.in_ok-start.ensures.no_worse orders placed) (c.in_ok-start.ensures.closed orders placed)

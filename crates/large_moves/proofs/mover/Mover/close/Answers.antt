@@ -15,39 +15,41 @@ returns-in-Done-clause-moved c =
     let charge : ℕ → ℕ = charge_of c.args.charges.now in
     let done = c.in-Done.ensures.scan in
     subst (λ (laid : Laid). ClosesPairs (charge_of c.args.charges.now) c.args.self.now
-    laid c.args.moves Yes) (sym done.0)
-    (all-closed charge c.args.self.now c.loop-now.self c.args.moves c.loop-now.invariant.no_more
-    done.1)
+    laid c.args.tries.now.left Yes) (sym done.0)
+    (all-closed charge c.args.self.now c.loop.self c.args.tries.now.left c.loop.invariant.no_more
+    c.loop.invariant.kept done.1)
 
 pub returns-in-Spent-clause-moved : goal.returns-in-Spent-clause-moved
 returns-in-Spent-clause-moved c =
     let charge : ℕ → ℕ = charge_of c.args.charges.now in
     let spent = c.in-Spent.ensures.scan in
     subst (λ (laid : Laid). ClosesPairs (charge_of c.args.charges.now) c.args.self.now
-    laid c.args.moves Spent) (sym spent.0)
-    (closed-spent charge c.args.self.now c.loop-now.self c.args.moves
-    c.loop-now.invariant.no_more c.loop-now.left c.loop-now.invariant.tries spent.1)
+    laid c.args.tries.now.left Spent) (sym spent.0)
+    (closed-spent charge c.args.self.now c.loop.self c.args.tries.now.left
+    c.loop.invariant.no_more c.loop.invariant.kept c.loop.tries.left c.loop.invariant.tries spent.1)
 
-pub loop-now-preserved : goal.loop-now-preserved
-loop-now-preserved c =
+pub loop-preserved : goal.loop-preserved
+loop-preserved c =
     let changed = c.in-Changed.ensures.scan in
     let same = c.in-Changed.ensures.same in
-    let few : length (pairs_of c.loop-now.self.plan) ≤ triangle (length c.loop-now.self.orders) =
-    subst (λ n. length (pairs_of c.loop-now.self.plan) ≤ triangle n) c.scan.ensures.each
-    (pairs-few c.loop-now.self.plan) in
-    let tries = tries-more c.args.moves c.loop-now.left c.in-Changed.now
+    let few : length (pairs_of c.loop.self.plan) ≤ triangle (length c.loop.self.orders) =
+    subst (λ n. length (pairs_of c.loop.self.plan) ≤ triangle n) c.scan.ensures.each
+    (pairs-few c.loop.self.plan) in
+    let tries = tries-more c.args.tries.now.left c.loop.tries.left c.scan.new.tries.left
     (laid_loss (charge_of c.args.charges.now) c.args.self.now)
-    (laid_loss (charge_of c.args.charges.now) c.loop-now.self)
+    (laid_loss (charge_of c.args.charges.now) c.loop.self)
     (laid_loss (charge_of c.args.charges.now) c.scan.new.self)
-    (length c.loop-now.self.orders) (length (pairs_of c.loop-now.self.plan))
-    c.loop-now.invariant.tries changed.1 few changed.0 c.loop-now.invariant.no_more in
+    (length c.loop.self.orders) (length (pairs_of c.loop.self.plan))
+    c.loop.invariant.tries changed.1 few changed.0 c.loop.invariant.no_more in
     record {
       same = record {
-        mill = same.mill ∙ c.loop-now.invariant.same.mill;
-        orders = same.orders ∙ c.loop-now.invariant.same.orders;
+        mill = same.mill ∙ c.loop.invariant.same.mill;
+        orders = same.orders ∙ c.loop.invariant.same.orders;
       };
-      no_more = omega (arith, changed.0, c.loop-now.invariant.no_more);
-      tries = subst (λ n. c.args.moves ≤ c.in-Changed.now
+      no_more = omega (arith, changed.0, c.loop.invariant.no_more);
+      kept = λ e. absurd (omega (arith, e, changed.0, c.loop.invariant.no_more));
+      times = c.in-Changed.ensures.times;
+      tries = subst (λ n. c.args.tries.now.left ≤ c.scan.new.tries.left
           + (laid_loss (charge_of c.args.charges.now) c.args.self.now
           - laid_loss (charge_of c.args.charges.now) c.scan.new.self) * triangle n)
           (sym (ap length same.orders)) tries;

@@ -1,6 +1,7 @@
 use Rattle.std.proofs.Common.{◌≡◌, ◌<◌, ◌∙◌, length, ap, rules, subst}
 use Rattle.std.specs.Vec.{with_items}
 use Rattle.std.proofs.lemmas.List.{with_items_is}
+use Rattle.std.proofs.lemmas.Option.{IfSome_then}
 use Rattle.mill_model.specs.Charges.{charge_of}
 use Rattle.mill_model.specs.Plan.{loss, IsLegalPlan}
 use Rattle.large_moves.specs.Laid.{Laid, AreLoads, laid_loss}
@@ -32,13 +33,13 @@ invariant_of-self c =
     (c.try_split.auto.marks ∙ ap length c.deref_mut-2.ensures.value))
 
 pub returns-clause-less : goal.returns-clause-less
-returns-clause-less c e =
+returns-clause-less c =
     let plan_long : length c.try_split.new.plan ≡ c.self.inside.plan.len = search rules in
+    IfSome_then c.try_split.result c.try_split.ensures.less (λ second less.
     subst (λ (laid : Laid). loss (charge_of c.args.charges.now)
     (with_items c.self.inside.plan c.try_split.new.plan).items c.self.inside.orders.items
     < laid_loss (charge_of c.args.charges.now) laid) c.self.view_is
     (less-by (charge_of c.args.charges.now) c.self.inside.orders.items
     c.deref.result.now c.self.inside.plan.items c.deref_mut-3.result.now
     c.try_split.new.plan _ c.deref.ensures.value c.deref_mut-3.ensures.value
-    (with_items_is c.self.inside.plan c.try_split.new.plan plan_long)
-    (c.try_split.ensures.less e))
+    (with_items_is c.self.inside.plan c.try_split.new.plan plan_long) less))

@@ -2,11 +2,11 @@
 use Rattle.std.proofs.Common.{◌≡◌, List, slice_index, subst, sym, ◌∙◌}
 use Rattle.mill_model.specs.Charges.{charge_of}
 use Rattle.mill_model.specs.Instance.{mill_of}
+use Rattle.mill_model.specs.Plan.{IsPlanWithLoss}
 use Rattle.mill_model.specs.Slab.{Mill}
 use Rattle.mill_model.specs.declared.order.Order.{Order}
-use Rattle.large_moves.specs.Moved.{IsStart}
-use Rattle.large_moves.proofs.SameFile.{same-file}
-use Rattle.large_moves.proofs.tests.moved.Goals as goal
+use Rattle.move_trials.proofs.SameFile.{same-file}
+use Rattle.move_trials.proofs.pairs.moved.Goals as goal
 
 pub pair_moves-requires-clause-start : goal.pair_moves-requires-clause-start
 pair_moves-requires-clause-start c orders placed =
@@ -14,8 +14,7 @@ pair_moves-requires-clause-start c orders placed =
     same-file c.args.instance.now.orders orders
     (sym c.in_ok-ranked.ensures.placed ∙ placed) in
     let start = rw c.in-Some.is at c.in_ok-start.ensures in
-    subst (λ (mill : Mill). IsStart mill (charge_of c.args.charges.now) orders
-    c.in-Some.start) (sym c.in_ok-ranked.ensures.mill)
-    (subst (λ os. IsStart (mill_of c.args.instance.now)
-    (charge_of c.args.charges.now) os c.in-Some.start) same
-    start)
+    subst (λ (mill : Mill). IsPlanWithLoss mill (charge_of c.args.charges.now) orders
+    c.in-Some.start.plan c.in-Some.start.loss) (sym c.in_ok-ranked.ensures.mill)
+    (subst (λ os. IsPlanWithLoss (mill_of c.args.instance.now) (charge_of c.args.charges.now) os
+    c.in-Some.start.plan c.in-Some.start.loss) same start)

@@ -1,6 +1,6 @@
 use Rattle.std.proofs.Common.{◌≡◌, length, ltb, true}
 use Rattle.std.specs.List.{list_all}
-use Rattle.large_moves.proofs.tests.alone.Given as goal
+use Rattle.move_trials.proofs.grid.alone.Given as goal
 
 abbrev pub invariant-loop-s : goal.invariant-loop-s
 invariant-loop-s l = record {

@@ -1,7 +1,0 @@
-use Rattle.std.proofs.Common.{◌≡◌, length}
-use Rattle.std.specs.List.{All}
-use Rattle.mill_model.specs.Instance.{IsOrder}
-use Rattle.large_moves.proofs.tests.instance_of.Given as goal
-
-abbrev pub invariant-loop : goal.invariant-loop
-invariant-loop l = All IsOrder l.orders.items × (length l.orders.items ≡ l.counter)

@@ -1,4 +1,0 @@
-use Rattle.large_moves.proofs.tests.start_at.Goals as goal
-
-pub returns-in-Legal : goal.returns-in-Legal
-returns-in-Legal c = (c.in_ok-loss.ensures.legal c.in-Legal.loss).0 c.in-Legal.is

@@ -1,0 +1,36 @@
+use Rattle.std.proofs.Common.{◌≡◌, ◌+◌, ◌-◌, ◌<◌, ℕ, get_or, length, sym, subst, arith}
+use Rattle.std.proofs.Common.{SFits, w64, to_z-of_z, rules, take}
+use Rattle.mill_model.specs.Charges.{charge_of}
+use Rattle.colour_tables.specs.PricedOrders.{PricedOrders, IsKnown, IsTurnOf}
+use Rattle.colour_tables.proofs.PaidCharges.{charged-from, room-of}
+use Rattle.colour_tables.proofs.TurnTables.{turn-from}
+use Rattle.colour_tables.proofs.tables.ColourTables.least_on_without.Goals as goal
+
+pub returns : goal.returns
+returns c =
+    let t = c.self.inside in
+    let i = c.self.invariant in
+    let name : ℕ → ℕ = λ c. get_or t.colours.items c 0 in
+    let charge : ℕ → ℕ = charge_of t.charges.now in
+    let far : length t.rest.now < 18446744073709551615 = omega (arith, i.few) in
+    let work : length c.args.work.now ≡ t.largest + 1 =
+    subst (λ (o : PricedOrders). length c.args.work.now ≡ o.largest + 1) (sym c.self.view_is)
+    c.requires.work in
+    let known = subst (λ (o : PricedOrders). IsKnown o c.args.slab) (sym c.self.view_is)
+    c.requires.known in
+    let q = subst (λ (o : PricedOrders). IsTurnOf o c.args.turn.now) (sym c.self.view_is)
+    c.requires.turn in
+    let room = room-of t.largest c.args.slab.load c.args.work.now known.fits work in
+    let f : SFits w64 c.least_without.result = search rules in
+    rw (← c.self.view_is) (record {
+      is = λ price group st.
+          simp to_z-of_z (c.least_without.ensures.is t.rest.now t.prices.items name charge
+          t.largest c.args.slab.load st.own i.row_tables i.run_orders far
+          (turn-from t.rest.now t.prices.items name (t.largest + 1) t.rows.width
+          c.args.turn.now.colour c.args.turn.now.place c.args.turn.now.alone.items
+          c.args.turn.now.beside.items c.deref-2.result.now c.deref-3.result.now i.width
+          c.deref-2.ensures.value c.deref-3.ensures.value q.tables) st.is room
+          (charged-from charge t.largest c.args.slab.load
+          (length (take (t.largest - c.args.slab.load + 1) c.args.work.now)) t.paid.items
+          c.deref.result.now c.deref.ensures.value i.reach i.charged room) price group st.of);
+    })

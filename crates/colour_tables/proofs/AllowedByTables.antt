@@ -1,6 +1,6 @@
 -- Which orders the tables allow, once the run of a colour is let in.
 use Rattle.std.proofs.Common.{ℕ, ◌<◌, ◌≤◌, ◌≡◌, ◌≢◌, Bool, true, false, not, ◌&&◌, ◌||◌, List, []}
-use Rattle.std.proofs.Common.{◌∷◌, map, length, eqb, eqb-true, eq-eqb, ne_eqb}
+use Rattle.std.proofs.Common.{◌∷◌, map, length, Option, Some, None, IfSome, eqb, eqb-true, eq-eqb, ne_eqb}
 use Rattle.std.proofs.Common.{refl, sym, ap, ◌∙◌, subst, arith, inl, inr}
 use Rattle.list_laws.specs.Sets.{holds, different}
 use Rattle.mill_model.specs.declared.order.Order.{Order}
@@ -12,7 +12,8 @@ use Rattle.set_minima.specs.Packs.{colour_at}
 use Rattle.set_minima.specs.Joins.{all_but}
 use Rattle.list_laws.proofs.Tests.{clash}
 use Rattle.colour_tables.specs.Threes.{once, but}
-use Rattle.colour_tables.specs.Colours.{of_colour, of_colours, but_order, IsUnion}
+use Rattle.colour_tables.specs.Colours.{of_colour, of_colours, but_order, but_for}
+use Rattle.colour_tables.specs.Colours.{of_colour_but, IsUnion}
 use Rattle.colour_tables.specs.Rowed.{apart_from}
 use Rattle.colour_tables.proofs.ColoursPaid.{but-less, but-more, but-other, but-rest, but-once}
 use Rattle.colour_tables.proofs.ColoursPaid.{same-name}
@@ -49,29 +50,29 @@ module _ (rest : List Order) (name : ℕ → ℕ) (cs : List ℕ) (o : once (map
     (all : (i : ℕ) → i < length rest → holds (colour_at rest i) (map name cs) ≡ true)
     (c : ℕ) (held : holds c cs ≡ true) where
   -- an order of another colour is not the one to skip
-  other-place : (skip : ℕ) → (skip < length rest → colour_at rest skip ≡ name c) → (i : ℕ) →
-      i < length rest → eqb (colour_at rest i) (name c) ≡ false → eqb i skip ≡ false
-  other-place skip at i b n =
-      ne_eqb i skip (λ q. clash (eqb (colour_at rest i) (name c))
-      (eq-eqb (colour_at rest i) (name c)
-      (ap (colour_at rest) q ∙ at (subst (λ z. z < length rest) q b))) n)
+  other-place : (skip : Option ℕ) → IfSome skip (λ j. colour_at rest j ≡ name c) → (i : ℕ) →
+      eqb (colour_at rest i) (name c) ≡ false → but_for skip i ≡ true
+  other-place None at i n = refl
+  other-place (Some j) at i n =
+      not-of (eqb i j) (ne_eqb i j (λ q. clash (eqb (colour_at rest i) (name c))
+      (eq-eqb (colour_at rest i) (name c) (ap (colour_at rest) q ∙ at)) n))
 
   pub not-c : (i : ℕ) → of_colours rest (map name (but c cs)) i ≡ true →
       eqb (colour_at rest i) (name c) ≡ false
   not-c i h = (but-other name (colour_at rest i) c cs o held h).0
 
   -- the others, and c but for one order
-  pub beside-all : (skip : ℕ) → (skip < length rest → colour_at rest skip ≡ name c) → (i : ℕ) →
+  pub beside-all : (skip : Option ℕ) → IfSome skip (λ j. colour_at rest j ≡ name c) → (i : ℕ) →
       i < length rest →
-      (of_colours rest (map name (but c cs)) i || but_order rest (name c) skip i)
-      ≡ all_but skip i
+      (of_colours rest (map name (but c cs)) i || of_colour_but rest (name c) skip i)
+      ≡ but_for skip i
   beside-all skip at i b =
-      equal-tests (of_colours rest (map name (but c cs)) i || but_order rest (name c) skip i)
-      (all_but skip i)
+      equal-tests (of_colours rest (map name (but c cs)) i || of_colour_but rest (name c) skip i)
+      (but_for skip i)
       (λ h. elim (or-cases (of_colours rest (map name (but c cs)) i)
-      (but_order rest (name c) skip i) h) [
-        | inl a ↦ not-of (eqb i skip) (other-place skip at i b (not-c i a))
-        | inr a ↦ and-right (eqb (colour_at rest i) (name c)) (not (eqb i skip)) a
+      (of_colour_but rest (name c) skip i) h) [
+        | inl a ↦ other-place skip at i (not-c i a)
+        | inr a ↦ and-right (eqb (colour_at rest i) (name c)) (but_for skip i) a
       ])
       (λ h. elim (either (eqb (colour_at rest i) (name c))) [
         | inl e ↦ or-right (of_colours rest (map name (but c cs)) i) _ (and-of _ _ e h)
@@ -86,13 +87,13 @@ module _ (rest : List Order) (name : ℕ → ℕ) (cs : List ℕ) (o : once (map
   bare-union j at = record {
     new = λ i b a. not-c i a;
     one = λ i b a. and-left (eqb (colour_at rest i) (name c)) (not (eqb i j)) a;
-    kept = λ i b a. sym (beside-all j (λ q. at) i b)
+    kept = λ i b a. sym (beside-all (Some j) at i b)
         ∙ or-left (of_colours rest (map name (but c cs)) i) _ a;
-    more = λ i b a. sym (beside-all j (λ q. at) i b)
+    more = λ i b a. sym (beside-all (Some j) at i b)
         ∙ or-right (of_colours rest (map name (but c cs)) i) _ a;
     only = λ i b a.
         or-cases (of_colours rest (map name (but c cs)) i) (but_order rest (name c) j i)
-        (beside-all j (λ q. at) i b ∙ a);
+        (beside-all (Some j) at i b ∙ a);
   }
 
   module _ (d : ℕ) (other : holds d (but c cs) ≡ true) where
@@ -137,30 +138,29 @@ module _ (rest : List Order) (name : ℕ → ℕ) (cs : List ℕ) (o : once (map
               (and-left (eqb (colour_at rest i) (name c)) (not (eqb i j)) a)))
         ]
 
-    pub two-all : (j skip : ℕ) → colour_at rest j ≡ name c → length rest ≤ skip → (i : ℕ) →
-        i < length rest →
+    pub two-all : (j : ℕ) → colour_at rest j ≡ name c → (i : ℕ) → i < length rest →
         (apart_from rest (map name (but d (but c cs))) (name c) j i
-        || but_order rest (name d) skip i) ≡ all_but j i
-    two-all j skip at far i b =
+        || of_colour_but rest (name d) None i) ≡ all_but j i
+    two-all j at i b =
         equal-tests (apart_from rest (map name (but d (but c cs))) (name c) j i
-        || but_order rest (name d) skip i) (all_but j i)
+        || of_colour_but rest (name d) None i) (all_but j i)
         (λ h. elim (or-cases (apart_from rest (map name (but d (but c cs))) (name c) j i)
-        (but_order rest (name d) skip i) h) [
+        (of_colour_but rest (name d) None i) h) [
           | inl a ↦ elim (or-cases (of_colours rest (map name (but d (but c cs))) i)
               (but_order rest (name c) j i) a) [
-                | inl e ↦ not-of (eqb i j) (other-place j (λ q. at) i b (not-c i (not-d i e).1))
+                | inl e ↦ other-place (Some j) at i (not-c i (not-d i e).1)
                 | inr e ↦ and-right (eqb (colour_at rest i) (name c)) (not (eqb i j)) e
               ]
-          | inr a ↦ not-of (eqb i j) (other-place j (λ q. at) i b
+          | inr a ↦ other-place (Some j) at i
               (ne_eqb (colour_at rest i) (name c) (λ q. apart (sym (eqb-true (colour_at rest i)
-              (name d) (and-left (eqb (colour_at rest i) (name d)) (not (eqb i skip)) a)) ∙ q))))
+              (name d) (and-left (eqb (colour_at rest i) (name d)) true a)) ∙ q)))
         ])
         (λ h. elim (either (eqb (colour_at rest i) (name c))) [
           | inl e ↦ or-left (apart_from rest (map name (but d (but c cs))) (name c) j i) _
               (or-right (of_colours rest (map name (but d (but c cs))) i) _ (and-of _ _ e h))
           | inr e ↦ elim (either (eqb (colour_at rest i) (name d))) [
             | inl g ↦ or-right (apart_from rest (map name (but d (but c cs))) (name c) j i) _
-                (and-of _ _ g (not-of (eqb i skip) (ne_eqb i skip (λ q. absurd (omega arith)))))
+                (and-of _ _ g refl)
             | inr g ↦ or-left (apart_from rest (map name (but d (but c cs))) (name c) j i) _
                 (or-left (of_colours rest (map name (but d (but c cs))) i) _
                 (but-rest name (colour_at rest i) d (but c cs) g
@@ -169,21 +169,21 @@ module _ (rest : List Order) (name : ℕ → ℕ) (cs : List ℕ) (o : once (map
         ])
 
     -- the orders of c but for one, and of d
-    pub pair-more : (skip : ℕ) → (skip < length rest → colour_at rest skip ≡ name c) → (i : ℕ) →
-        i < length rest → (of_colour rest (name d) i || but_order rest (name c) skip i) ≡ true →
-        all_but skip i ≡ true
-    pair-more skip at i b h =
-        elim (or-cases (of_colour rest (name d) i) (but_order rest (name c) skip i) h) [
-          | inl a ↦ not-of (eqb i skip) (other-place skip at i b
+    pub pair-more : (skip : Option ℕ) → IfSome skip (λ j. colour_at rest j ≡ name c) → (i : ℕ) →
+        (of_colour rest (name d) i || of_colour_but rest (name c) skip i) ≡ true →
+        but_for skip i ≡ true
+    pair-more skip at i h =
+        elim (or-cases (of_colour rest (name d) i) (of_colour_but rest (name c) skip i) h) [
+          | inl a ↦ other-place skip at i
               (ne_eqb (colour_at rest i) (name c) (λ q. apart (sym (eqb-true (colour_at rest i)
-              (name d) a) ∙ q))))
-          | inr a ↦ and-right (eqb (colour_at rest i) (name c)) (not (eqb i skip)) a
+              (name d) a) ∙ q)))
+          | inr a ↦ and-right (eqb (colour_at rest i) (name c)) (but_for skip i) a
         ]
 
     pub pair-less : (own : List ℕ) → different own ≡ 2 → holds (name c) own ≡ true →
-        holds (name d) own ≡ true → (skip i : ℕ) → all_but skip i ≡ true →
+        holds (name d) own ≡ true → (skip : Option ℕ) (i : ℕ) → but_for skip i ≡ true →
         holds (colour_at rest i) own ≡ true →
-        (of_colour rest (name d) i || but_order rest (name c) skip i) ≡ true
+        (of_colour rest (name d) i || of_colour_but rest (name c) skip i) ≡ true
     pair-less own n h k skip i a e =
         elim (either (eqb (colour_at rest i) (name d))) [
           | inl q ↦ or-left (of_colour rest (name d) i) _ q

@@ -2,7 +2,7 @@
 use Rattle.std.proofs.Common.{ℕ, zero, suc, ◌+◌, ◌<◌, ◌≤◌, ◌≡◌, ◌≢◌, ◌⊎◌, Bool, true, false, not}
 use Rattle.std.proofs.Common.{◌&&◌, ◌||◌, List, [], ◌∷◌, ◌++◌, length, get_or, take, eqb, eq-eqb}
 use Rattle.std.proofs.Common.{ne_eqb}
-use Rattle.std.proofs.Common.{eqb-true, ℤ, pos, Option, refl, sym, ap, ◌∙◌}
+use Rattle.std.proofs.Common.{eqb-true, ℤ, pos, Option, None, refl, sym, ap, ◌∙◌}
 use Rattle.std.proofs.Common.{subst, arith, inl, inr}
 use Rattle.std.proofs.lemmas.List.{take_all}
 use Rattle.list_laws.specs.Sets.{holds}
@@ -17,7 +17,7 @@ use Rattle.set_minima.proofs.WholeTables.{table-adds, table-allowed}
 use Rattle.set_minima.specs.Cells.{cell}
 use Rattle.colour_tables.specs.Threes.{once}
 use Rattle.colour_tables.specs.Items.{places, item_at, IsItem, IsRun, let_in}
-use Rattle.colour_tables.specs.Colours.{of_colour, but_order}
+use Rattle.colour_tables.specs.Colours.{of_colour, of_colour_but, but_for}
 use Rattle.colour_tables.specs.declared.items.Item.{Item}
 use Rattle.set_minima.proofs.OneCell.{raised}
 
@@ -73,7 +73,7 @@ and-true : (a b : Bool) → a ≡ true → b ≡ true → (a && b) ≡ true
 and-true true b h k = k
 and-true false b h k = h
 
-module _ (before : ℕ → Bool) (run : List Item) (skip t : ℕ) (here : t < length run) where
+module _ (before : ℕ → Bool) (run : List Item) (skip : Option ℕ) (t : ℕ) (here : t < length run) where
   abbrev p : ℕ
   p = (item_at run t).place
 
@@ -83,18 +83,18 @@ module _ (before : ℕ → Bool) (run : List Item) (skip t : ℕ) (here : t < le
 
   let-kept : (i : ℕ) → let_in before run skip t i ≡ true → let_in before run skip (suc t) i ≡ true
   let-kept i h =
-      elim (or-cases (before i) (holds i (places (take t run)) && not (eqb i skip)) h) [
+      elim (or-cases (before i) (holds i (places (take t run)) && but_for skip i) h) [
         | inl a ↦ or-left (before i) _ a
-        | inr a ↦ (let q = and-cases (holds i (places (take t run))) (not (eqb i skip)) a in
+        | inr a ↦ (let q = and-cases (holds i (places (take t run))) (but_for skip i) a in
             or-right (before i) _ (and-true _ _ (later i q.0) q.1))
       ]
 
   let-cases : (i : ℕ) → let_in before run skip (suc t) i ≡ true →
-      (let_in before run skip t i ≡ true) ⊎ ((eqb i p ≡ true) × (not (eqb i skip) ≡ true))
+      (let_in before run skip t i ≡ true) ⊎ ((eqb i p ≡ true) × (but_for skip i ≡ true))
   let-cases i h =
-      elim (or-cases (before i) (holds i (places (take (suc t) run)) && not (eqb i skip)) h) [
+      elim (or-cases (before i) (holds i (places (take (suc t) run)) && but_for skip i) h) [
         | inl a ↦ inl (or-left (before i) _ a)
-        | inr a ↦ (let q = and-cases (holds i (places (take (suc t) run))) (not (eqb i skip)) a in
+        | inr a ↦ (let q = and-cases (holds i (places (take (suc t) run))) (but_for skip i) a in
             elim (or-cases (holds i (places (take t run))) (eqb i p)
             (sym (holds-last run t i here) ∙ q.0)) [
               | inl b ↦ inl (or-right (before i) _ (and-true _ _ b q.1))
@@ -103,13 +103,13 @@ module _ (before : ℕ → Bool) (run : List Item) (skip t : ℕ) (here : t < le
       ]
 
   -- an item that is not skipped lets its place in
-  pub next-let_in : once (places run) ≡ true → before p ≡ false → eqb p skip ≡ false →
+  pub next-let_in : once (places run) ≡ true → before p ≡ false → but_for skip p ≡ true →
       IsNext (let_in before run skip t) (let_in before run skip (suc t)) p
   next-let_in o n s = record {
     new = rw (n, no-place-before run t here o);
     now =
         or-right (before p) _ (and-true _ _ (holds-last run t p here
-        ∙ or-right (holds p (places (take t run))) _ (eq-eqb p p refl)) (rw s refl));
+        ∙ or-right (holds p (places (take t run))) _ (eq-eqb p p refl)) s);
     kept = let-kept;
     only = λ i h e. elim (let-cases i h) [
       | inl a ↦ a
@@ -118,25 +118,25 @@ module _ (before : ℕ → Bool) (run : List Item) (skip t : ℕ) (here : t < le
   }
 
   -- and the one to skip none
-  pub same-let_in : eqb p skip ≡ true → (i : ℕ) →
+  pub same-let_in : but_for skip p ≡ false → (i : ℕ) →
       let_in before run skip t i ≡ let_in before run skip (suc t) i
   same-let_in s i =
       equal-tests (let_in before run skip t i) (let_in before run skip (suc t) i) (let-kept i)
       (λ h. elim (let-cases i h) [
         | inl a ↦ a
-        | inr a ↦ absurd (clash (eqb i skip) (subst (λ z. eqb z skip ≡ true)
-            (sym (eqb-true i p a.0)) s) (not-true (eqb i skip) a.1))
+        | inr a ↦ absurd (clash (but_for skip i) a.1 (subst (λ z. but_for skip z ≡ false)
+            (sym (eqb-true i p a.0)) s))
       ])
 
 -- the item at a place of a run is let in, or is skipped
 module _ (rest : List Order) (prices : List ℤ) (c : ℕ) (run : List Item)
-    (is : IsRun rest prices c run) (before : ℕ → Bool) (own : List ℕ) (k skip t : ℕ)
-    (paid : holds c own ≡ true) (new : (i : ℕ) → i < length rest →
+    (is : IsRun rest prices c run) (before : ℕ → Bool) (own : List ℕ) (k : ℕ) (skip : Option ℕ)
+    (t : ℕ) (paid : holds c own ≡ true) (new : (i : ℕ) → i < length rest →
     holds i (places run) ≡ true → before i ≡ false) (here : t < length run) where
   abbrev item : Item
   item = item_at run t
 
-  pub item-adds : (old now : List ℤ) → item.place ≢ skip →
+  pub item-adds : (old now : List ℤ) → but_for skip item.place ≡ true →
       ((l : ℕ) → l < length old → cell now l ≡ raised item.weight item.price old l) →
       IsTable (let_in before run skip t) own k rest prices (length old) (cell old) →
       IsTable (let_in before run skip (t + 1)) own k rest prices (length old) (cell now)
@@ -148,8 +148,7 @@ module _ (rest : List Order) (prices : List ℤ) (c : ℕ) (run : List Item)
       subst (λ z. IsTable (let_in before run skip z) own k rest prices (length old) (cell now))
       (one t) (table-adds rest prices is.same (let_in before run skip t)
       (let_in before run skip (suc t)) own k item.place i.inside
-      (next-let_in before run skip t here is.apart (new item.place i.inside m)
-      (ne_eqb item.place skip n))
+      (next-let_in before run skip t here is.apart (new item.place i.inside m) n)
       (subst (λ z. holds z own ≡ true) (sym col) paid) old now
       (λ l b. e l b ∙ same l i.weighs i.priced) h)
     where
@@ -162,20 +161,20 @@ module _ (rest : List Order) (prices : List ℤ) (c : ℕ) (run : List Item)
           ≡ raised (get_or rest item.place nobody).weight (get_or prices item.place (pos 0)) old l
       same l w q = rw (w, q) refl
 
-  pub item-skipped : (width : ℕ) (best : ℕ → Option ℤ) → item.place ≡ skip →
+  pub item-skipped : (width : ℕ) (best : ℕ → Option ℤ) → but_for skip item.place ≡ false →
       IsTable (let_in before run skip t) own k rest prices width best →
       IsTable (let_in before run skip (t + 1)) own k rest prices width best
   item-skipped width best e h =
       subst (λ z. IsTable (let_in before run skip z) own k rest prices width best)
       (one t) (table-allowed rest prices (let_in before run skip t)
       (let_in before run skip (suc t)) own k width best
-      (λ i b. same-let_in before run skip t here (eq-eqb item.place skip e) i) h)
+      (λ i b. same-let_in before run skip t here e i) h)
     where
       one : (t : ℕ) → suc t ≡ t + 1
       one t = omega arith
 
 -- no item yet
-pub first-let_in : (before : ℕ → Bool) (run : List Item) (skip i : ℕ) →
+pub first-let_in : (before : ℕ → Bool) (run : List Item) (skip : Option ℕ) (i : ℕ) →
     before i ≡ let_in before run skip 0 i
 first-let_in before run skip i = end (before i)
   where
@@ -185,8 +184,9 @@ first-let_in before run skip i = end (before i)
 
 -- all of them
 pub run-let_in : (rest : List Order) (prices : List ℤ) (c : ℕ) (run : List Item) →
-    IsRun rest prices c run → (before : ℕ → Bool) (skip i : ℕ) → i < length rest →
-    let_in before run skip (length run) i ≡ (before i || but_order rest c skip i)
+    IsRun rest prices c run → (before : ℕ → Bool) (skip : Option ℕ) (i : ℕ) →
+    i < length rest →
+    let_in before run skip (length run) i ≡ (before i || of_colour_but rest c skip i)
 run-let_in rest prices c run is before skip i b =
     let e : take (length run) run ≡ run = take_all (length run) run (omega arith) in
     rw (e, is.whole i b) refl
@@ -194,11 +194,9 @@ run-let_in rest prices c run is before skip i b =
 pub self-holds : (c : ℕ) (cs : List ℕ) → holds c (c ∷ cs) ≡ true
 self-holds c cs = or-left (eqb c c) (holds c cs) (eq-eqb c c refl)
 
--- an order that is not there is not skipped
-pub none-skipped : (rest : List Order) (c skip i : ℕ) → length rest ≤ skip → i < length rest →
-    but_order rest c skip i ≡ of_colour rest c i
-none-skipped rest c skip i h b =
-    rw (ne_eqb i skip (λ q. absurd (omega arith))) (end (eqb (colour_at rest i) c))
+-- where none is to skip, all orders of the colour are let in
+pub none-skipped : (rest : List Order) (c i : ℕ) → of_colour_but rest c None i ≡ of_colour rest c i
+none-skipped rest c i = end (eqb (colour_at rest i) c)
   where
     end : (b : Bool) → (b && true) ≡ b
     end true = refl
@@ -206,10 +204,10 @@ none-skipped rest c skip i h b =
 
 -- a run is let into a table of orders that do not have its colour
 pub run-table : (rest : List Order) (prices : List ℤ) (c : ℕ) (run : List Item) →
-    IsRun rest prices c run → (A B : ℕ → Bool) (own : List ℕ) (k skip n : ℕ) (old now : List ℤ) →
-    length old ≡ n →
+    IsRun rest prices c run → (A B : ℕ → Bool) (own : List ℕ) (k : ℕ) (skip : Option ℕ) (n : ℕ)
+    (old now : List ℤ) → length old ≡ n →
     ((i : ℕ) → i < length rest → A i ≡ true → eqb (colour_at rest i) c ≡ false) →
-    ((i : ℕ) → i < length rest → (A i || but_order rest c skip i) ≡ B i) →
+    ((i : ℕ) → i < length rest → (A i || of_colour_but rest c skip i) ≡ B i) →
     IsTable A own k rest prices n (cell old) →
     (((i : ℕ) → i < length rest → holds i (places run) ≡ true → A i ≡ false) →
     IsTable A own k rest prices (length old) (cell old) →

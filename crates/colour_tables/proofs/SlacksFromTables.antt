@@ -153,15 +153,6 @@ slack-with rest prices charge largest base own least j v here same f d h group o
     less : (x y : ℤ) → neg_ℤ (neg_ℤ x +ℤ y) ≡ x -ℤ y
     less x y = omega (arith, ints)
 
--- every place is another than one that is not there
-pub skip-none : (rest : List Order) (skip i : ℕ) → length rest ≤ skip → i < length rest →
-    all_but skip i ≡ all_places i
-skip-none rest skip i h b = go (eqb i skip) refl
-  where
-    go : (v : Bool) → eqb i skip ≡ v → not (eqb i skip) ≡ true
-    go true e = absurd (let q : i ≡ skip = eqb-true i skip e in omega arith)
-    go false e = rw e refl
-
 -- the least over a table
 pub least-over : (rest : List Order) (prices : List ℤ) (charge : ℕ → ℕ) (largest base n n' : ℕ)
     (allowed : ℕ → Bool) (own : List ℕ) (charges table : List ℤ) (least : ℤ) → n' ≡ n →
@@ -177,15 +168,6 @@ least-over rest prices charge largest base n n' allowed own charges table least 
     (found (neg_ℤ least))) e
     (top (subst (λ z. AreCharged charge base z charges) (sym e) charged)
     (subst (λ z. IsTable allowed own 2 rest prices z (cell table)) (sym e) p)))
-
--- where the order to skip is not there, nothing is skipped
-pub least-all : (rest : List Order) (prices : List ℤ) (charge : ℕ → ℕ) (largest base : ℕ)
-    (own : List ℕ) (least : ℤ) (skip : ℕ) → length rest ≤ skip →
-    IsLeast rest prices charge largest base (all_but skip) own least →
-    IsLeast rest prices charge largest base all_places own least
-least-all rest prices charge largest base own least skip h p =
-    least-allowed rest prices charge largest base own least (all_but skip) all_places
-    (λ i b. skip-none rest skip i h b) p
 
 pub one-few : (x : ℕ) (own : List ℕ) → own ≡ x ∷ [] → different own ≤ 2
 one-few x own e = rw e (omega arith)

@@ -1,11 +1,12 @@
 -- Items: orders of the rest by place, with their weights and prices, and runs of one colour.
-use Rattle.std.specs.Prelude.{ℕ, ◌<◌, ◌≤◌, ◌≡◌, Bool, true, not, ◌&&◌, ◌||◌, eqb, List, length}
-use Rattle.std.specs.Prelude.{ℤ, pos, map, take, slice_index_or}
+use Rattle.std.specs.Prelude.{ℕ, ◌<◌, ◌≤◌, ◌≡◌, Bool, true, ◌&&◌, ◌||◌, eqb, List, length}
+use Rattle.std.specs.Prelude.{ℤ, pos, map, take, slice_index_or, Option}
 use Rattle.list_laws.specs.Sets.{holds}
 use Rattle.mill_model.specs.declared.order.Order.{Order}
 use Rattle.set_minima.specs.Packs.{colour_at, nobody}
 use Rattle.set_minima.specs.Cells.{IsSmall}
 use Rattle.colour_tables.specs.Threes.{once}
+use Rattle.colour_tables.specs.Colours.{but_for}
 use Rattle.colour_tables.specs.declared.items.Item.{Item}
 
 abbrev pub places : List Item → List ℕ
@@ -31,9 +32,9 @@ pub record IsRun (rest : List Order) (prices : List ℤ) (c : ℕ) (run : List I
   pub whole :
       (i : ℕ) → i < length rest → holds i (places run) ≡ eqb (colour_at rest i) c
 
--- which orders are allowed once the first t items of a run are, but for one
-abbrev pub let_in : (ℕ → Bool) → List Item → ℕ → ℕ → ℕ → Bool
-let_in before run skip t i = before i || (holds i (places (take t run)) && not (eqb i skip))
+-- which orders are allowed once the first t items of a run are, but for the one to skip
+abbrev pub let_in : (ℕ → Bool) → List Item → Option ℕ → ℕ → ℕ → Bool
+let_in before run skip t i = before i || (holds i (places (take t run)) && but_for skip i)
 
 -- what a run can hold: few items with small prices, each with some weight
 pub record AreSmall (run : List Item) : Type 0 where

@@ -1,7 +1,7 @@
 // The rows of the colours to come, and the tables that are made of them.
 
 ghost use Rattle.std.specs.Prelude.{◌≡◌, ℕ, List, Bool, true, ℤ, ◌+◌, ◌-◌, ◌*◌, ◌^◌, ◌<◌, ◌≤◌, ◌∷◌};
-ghost use Rattle.std.specs.Prelude.{[], length, map, eqb, false, set};
+ghost use Rattle.std.specs.Prelude.{[], length, map, eqb, false, set, IfSome};
 ghost use Rattle.std.specs.Prelude.{slice_index_or};
 ghost use Rattle.list_laws.specs.Sets.{holds, different};
 ghost use Rattle.mill_model.specs.declared.order.Order.{Order};
@@ -14,7 +14,7 @@ ghost use Rattle.colour_tables.specs.Entries.{AreSmallAll};
 ghost use Rattle.colour_tables.specs.Leasts.{AreCharged};
 ghost use Rattle.colour_tables.specs.Threes.{but, row_entry, once};
 ghost use Rattle.colour_tables.specs.Items.{IsRun, AreSmall};
-ghost use Rattle.colour_tables.specs.Colours.{of_colours, but_order};
+ghost use Rattle.colour_tables.specs.Colours.{of_colours, but_order, but_for};
 ghost use Rattle.colour_tables.specs.Rowed.{IsShaped, AreRows, apart_from};
 
 use crate::gain::least;
@@ -75,7 +75,7 @@ impl Rows {
 
     /// The table of the sets of at most one colour other than c, or of c and at most one other, but
     /// for one order of c.
-    pub(crate) fn put_beside(&self, table: &mut [i64], c: usize, run: &[Item], skip: usize)
+    pub(crate) fn put_beside(&self, table: &mut [i64], c: usize, run: &[Item], skip: Option<usize>)
         requires shaped { IsShaped self.now }
         requires held { holds c self.now.present.items ≡ true }
         requires some { 0 < length table.old }
@@ -83,8 +83,8 @@ impl Rows {
         requires small { AreSmall run.now }
         ensures is { (rest : List Order) → (prices : List ℤ) → (name : ℕ → ℕ) →
             AreRows rest prices name self.now → IsRun rest prices (name c) run.now →
-            (skip < length rest → colour_at rest skip ≡ name c) →
-            IsTable (all_but skip) (name c ∷ []) 2 rest prices (length table.old)
+            IfSome skip (λ j. colour_at rest j ≡ name c) →
+            IsTable (but_for skip) (name c ∷ []) 2 rest prices (length table.old)
             (cell table.new) }
         ensures near { AreNear 40980000000000 table.new }
     {
@@ -139,14 +139,14 @@ impl Rows {
         requires small { AreSmall run.now }
         ensures is { (rest : List Order) → (prices : List ℤ) → (name : ℕ → ℕ) → (j : ℕ) →
             AreRows rest prices name self.now → IsRun rest prices (name d) run.now →
-            length rest < 2 ^ 64 - 1 → j < length rest → colour_at rest j ≡ name c →
+            j < length rest → colour_at rest j ≡ name c →
             IsTable (but_order rest (name c) j) (name c ∷ []) 1 rest prices (length table.old)
             (cell alone.now) →
             IsTable (all_but j) (name d ∷ []) 2 rest prices (length table.old) (cell table.new) }
         ensures near { AreNear 40980000000000 table.new }
     {
         self.put_others_of_two(table, c, d, alone);
-        add_run(table, run, usize::MAX);
+        add_run(table, run, None);
     }
 
     /// The table of the sets of at most one colour, where c is as in a table.
@@ -168,7 +168,7 @@ impl Rows {
     }
 
     /// The table of the sets of c and d, but for one order of c.
-    pub(crate) fn put_pair(&self, table: &mut [i64], d: usize, run: &[Item], skip: usize)
+    pub(crate) fn put_pair(&self, table: &mut [i64], d: usize, run: &[Item], skip: Option<usize>)
         requires shaped { IsShaped self.now }
         requires held { holds d self.now.present.items ≡ true }
         requires few { length table.old ≤ self.now.width }
@@ -177,9 +177,9 @@ impl Rows {
             (own : List ℕ) → AreRows rest prices name self.now →
             IsRun rest prices (name c) run.now →
             holds c (but d self.now.present.items) ≡ true →
-            (skip < length rest → colour_at rest skip ≡ name c) → different own ≡ 2 →
+            IfSome skip (λ j. colour_at rest j ≡ name c) → different own ≡ 2 →
             holds (name c) own ≡ true → holds (name d) own ≡ true →
-            IsTable (all_but skip) own 2 rest prices (length table.old) (cell table.new) }
+            IsTable (but_for skip) own 2 rest prices (length table.old) (cell table.new) }
         ensures near { AreNear 40980000000000 table.new }
     {
         let n = table.len();
@@ -194,7 +194,7 @@ impl Rows {
         charges: &[i64],
         c: usize,
         run: &[Item],
-        skip: usize,
+        skip: Option<usize>,
     ) -> i64
         requires shaped { IsShaped self.now }
         requires held { holds c self.now.present.items ≡ true }
@@ -206,10 +206,10 @@ impl Rows {
         ensures is { (rest : List Order) → (prices : List ℤ) → (name : ℕ → ℕ) →
             (charge : ℕ → ℕ) → (largest base : ℕ) → AreRows rest prices name self.now →
             IsRun rest prices (name c) run.now →
-            (skip < length rest → colour_at rest skip ≡ name c) →
+            IfSome skip (λ j. colour_at rest j ≡ name c) →
             IsRoom largest base (length table.old) →
             AreCharged charge base (length table.old) charges.now →
-            IsLeast rest prices charge largest base (all_but skip) (name c ∷ []) result }
+            IsLeast rest prices charge largest base (but_for skip) (name c ∷ []) result }
     {
         self.put_beside(table, c, run, skip);
         least(charges, table)
@@ -237,7 +237,7 @@ impl Rows {
         requires charges { AreSmallAll charges.now }
         ensures is { (rest : List Order) → (prices : List ℤ) → (name : ℕ → ℕ) →
             (charge : ℕ → ℕ) → (largest base j : ℕ) → AreRows rest prices name self.now →
-            IsRun rest prices (name d) run.now → length rest < 2 ^ 64 - 1 → j < length rest →
+            IsRun rest prices (name d) run.now → j < length rest →
             colour_at rest j ≡ name c →
             IsTable (but_order rest (name c) j) (name c ∷ []) 1 rest prices (length table.old)
             (cell alone.now) →
@@ -287,7 +287,7 @@ impl Rows {
         charges: &[i64],
         d: usize,
         run: &[Item],
-        skip: usize,
+        skip: Option<usize>,
     ) -> i64
         requires shaped { IsShaped self.now }
         requires held { holds d self.now.present.items ≡ true }
@@ -299,11 +299,11 @@ impl Rows {
             (charge : ℕ → ℕ) → (largest base c : ℕ) → (own : List ℕ) →
             AreRows rest prices name self.now → IsRun rest prices (name c) run.now →
             holds c (but d self.now.present.items) ≡ true →
-            (skip < length rest → colour_at rest skip ≡ name c) → different own ≡ 2 →
+            IfSome skip (λ j. colour_at rest j ≡ name c) → different own ≡ 2 →
             holds (name c) own ≡ true → holds (name d) own ≡ true →
             IsRoom largest base (length table.old) →
             AreCharged charge base (length table.old) charges.now →
-            IsLeast rest prices charge largest base (all_but skip) own result }
+            IsLeast rest prices charge largest base (but_for skip) own result }
     {
         self.put_pair(table, d, run, skip);
         least(charges, table)

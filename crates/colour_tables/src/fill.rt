@@ -27,7 +27,7 @@ fn put_row(rows: &mut [i64], c: usize, width: usize, run: &[Item])
     requires wide { 0 < width }
     requires small { AreSmall run.now }
     ensures best { (rest : List Order) → (prices : List ℤ) → (x : ℕ) →
-        IsRun rest prices x run.now → length rest < 2 ^ 64 - 1 →
+        IsRun rest prices x run.now →
         IsTable (of_colour rest x) (x ∷ []) 1 rest prices width
         (λ l. found (row_entry rows.new width l c)) }
     ensures other { (i : ℕ) → i < c * width ⊎ c * width + width ≤ i →
@@ -35,7 +35,7 @@ fn put_row(rows: &mut [i64], c: usize, width: usize, run: &[Item])
     ensures near { AreNear 20500000000000 rows.old → AreNear 20500000000000 rows.new }
 {
     let at = c * width;
-    fill_run(&mut rows[at..at + width], run, usize::MAX);
+    fill_run(&mut rows[at..at + width], run, None);
 }
 
 /// Fills the row of a colour, and moves it into the three greatest values.
@@ -53,7 +53,7 @@ fn add_row(
     requires third { length third.old ≡ length best.old }
     requires small { AreSmall run.now }
     ensures best { (rest : List Order) → (prices : List ℤ) → (x : ℕ) →
-        IsRun rest prices x run.now → length rest < 2 ^ 64 - 1 →
+        IsRun rest prices x run.now →
         IsTable (of_colour rest x) (x ∷ []) 1 rest prices (length best.old)
         (λ l. found (row_entry rows.new (length best.old) l c)) }
     ensures other { (i : ℕ) → i < c * length best.old ⊎ c * length best.old + length best.old ≤ i →
@@ -87,7 +87,7 @@ pub(crate) fn fill_all(
     requires once { once present.now ≡ true }
     requires near { AreNear 20500000000000 rows.old }
     ensures rows { (rest : List Order) → (prices : List ℤ) → (name : ℕ → ℕ) →
-        AreRuns rest prices name present.now runs.now → length rest < 2 ^ 64 - 1 → (c : ℕ) →
+        AreRuns rest prices name present.now runs.now → (c : ℕ) →
         holds c present.now ≡ true →
         IsTable (of_colour rest (name c)) (name c ∷ []) 1 rest prices (length best.old)
         (λ l. found (row_entry rows.new (length best.old) l c)) }
@@ -114,7 +114,7 @@ impl Rows {
         ensures present { self.new.present.items ≡ self.old.present.items }
         ensures width { self.new.width ≡ self.old.width }
         ensures is { (rest : List Order) → (prices : List ℤ) → (name : ℕ → ℕ) →
-            AreOrders rest → length prices ≡ length rest → length rest < 2 ^ 64 - 1 →
+            AreOrders rest → length prices ≡ length rest →
             once (map name self.old.present.items) ≡ true →
             ((i : ℕ) → i < length rest →
             holds (colour_at rest i) (map name self.old.present.items) ≡ true) →

@@ -134,7 +134,7 @@ pub(crate) fn least_on(
     requires charges { AreSmallAll charges.now }
     ensures is { (rest : List Order) → (prices : List ℤ) → (name : ℕ → ℕ) → (charge : ℕ → ℕ) →
         (largest base : ℕ) → (colours : List ℕ) → AreRows rest prices name rows.now →
-        AreRuns rest prices name rows.now.present.items runs.now → length rest < 2 ^ 64 - 1 →
+        AreRuns rest prices name rows.now.present.items runs.now →
         IsOwn rest name colours own → IsRoom largest base (length table.old) →
         AreCharged charge base (length table.old) charges.now →
         (group : List Order) → IsSlab group base colours →
@@ -142,9 +142,9 @@ pub(crate) fn least_on(
 {
     match own {
         Own::Bare => least_front(charges, &rows.best, table.len()),
-        Own::Free(d) => rows.least_beside(table, charges, d, runs.run(d), usize::MAX),
+        Own::Free(d) => rows.least_beside(table, charges, d, runs.run(d), None),
         Own::One(d) => least_front(charges, rows.row(d), table.len()),
-        Own::Two(d, e) => rows.least_pair(table, charges, d, runs.run(e), usize::MAX),
+        Own::Two(d, e) => rows.least_pair(table, charges, d, runs.run(e), None),
         Own::Full => least_of_none(table, charges),
     }
 }
@@ -173,8 +173,8 @@ pub(crate) fn begin_turn(
     ensures beside { AreNear 40980000000000 beside.new }
 {
     let run = runs.run(c);
-    fill_run(alone, run, j);
-    rows.put_beside(beside, c, run, j);
+    fill_run(alone, run, Some(j));
+    rows.put_beside(beside, c, run, Some(j));
 }
 
 /// The least slack of a new slab over all sets that hold an order, from the table of its colour
@@ -238,14 +238,14 @@ pub(crate) fn least_with(
             if d == c {
                 return least_front(charges, beside, table.len());
             }
-            rows.least_pair(table, charges, d, runs.run(c), j)
+            rows.least_pair(table, charges, d, runs.run(c), Some(j))
         }
         Own::One(_) => least_front(charges, alone, table.len()),
         Own::Two(d, e) => {
             if d == c {
-                return rows.least_pair(table, charges, e, runs.run(c), j);
+                return rows.least_pair(table, charges, e, runs.run(c), Some(j));
             }
-            rows.least_pair(table, charges, d, runs.run(c), j)
+            rows.least_pair(table, charges, d, runs.run(c), Some(j))
         }
         Own::Full => least_of_none(table, charges),
     }
@@ -278,7 +278,7 @@ pub(crate) fn least_without(
     requires charges { AreSmallAll charges.now }
     ensures is { (rest : List Order) → (prices : List ℤ) → (name : ℕ → ℕ) → (charge : ℕ → ℕ) →
         (largest base : ℕ) → (colours : List ℕ) → AreRows rest prices name rows.now →
-        AreRuns rest prices name rows.now.present.items runs.now → length rest < 2 ^ 64 - 1 →
+        AreRuns rest prices name rows.now.present.items runs.now →
         IsTurn rest prices name rows.now.width c j alone.now beside.now →
         IsOwn rest name colours own → IsRoom largest base (length table.old) →
         AreCharged charge base (length table.old) charges.now → (v : ℤ) →
@@ -297,9 +297,9 @@ pub(crate) fn least_without(
         Own::One(_) => least_front(charges, alone, table.len()),
         Own::Two(d, e) => {
             if d == c {
-                return rows.least_pair(table, charges, e, runs.run(c), j);
+                return rows.least_pair(table, charges, e, runs.run(c), Some(j));
             }
-            rows.least_pair(table, charges, d, runs.run(c), j)
+            rows.least_pair(table, charges, d, runs.run(c), Some(j))
         }
         Own::Full => least_of_none(table, charges),
     }
@@ -316,7 +316,7 @@ pub(crate) fn least_anew(rows: &Rows, runs: &Runs, table: &mut [i64], charges: &
     requires charges { AreSmallAll charges.now }
     ensures is { (rest : List Order) → (prices : List ℤ) → (name : ℕ → ℕ) → (charge : ℕ → ℕ) →
         (largest : ℕ) → AreRows rest prices name rows.now →
-        AreRuns rest prices name rows.now.present.items runs.now → length rest < 2 ^ 64 - 1 →
+        AreRuns rest prices name rows.now.present.items runs.now →
         IsRoom largest 0 (length table.old) →
         AreCharged charge 0 (length table.old) charges.now →
         result ≡ least_slack (two_colours largest) charge [] rest prices }
@@ -324,7 +324,7 @@ pub(crate) fn least_anew(rows: &Rows, runs: &Runs, table: &mut [i64], charges: &
     let mut least = charges[0];
     for t in 0..rows.present.len() {
         let c = rows.present[t];
-        let beside = rows.least_beside(table, charges, c, runs.run(c), usize::MAX);
+        let beside = rows.least_beside(table, charges, c, runs.run(c), None);
         least = least.min(beside);
     }
     least
@@ -340,7 +340,7 @@ pub(crate) fn least_new(rows: &Rows, runs: &Runs, table: &mut [i64], charges: &[
     requires charges { AreSmallAll charges.now }
     ensures is { (rest : List Order) → (prices : List ℤ) → (name : ℕ → ℕ) → (charge : ℕ → ℕ) →
         (largest : ℕ) → AreRows rest prices name rows.now →
-        AreRuns rest prices name rows.now.present.items runs.now → length rest < 2 ^ 64 - 1 →
+        AreRuns rest prices name rows.now.present.items runs.now →
         IsRoom largest 0 (length table.old) →
         AreCharged charge 0 (length table.old) charges.now →
         result ≡ least_new (two_colours largest) charge rest prices }
@@ -348,7 +348,7 @@ pub(crate) fn least_new(rows: &Rows, runs: &Runs, table: &mut [i64], charges: &[
     let mut least = i64::MAX;
     for t in 0..rows.present.len() {
         let c = rows.present[t];
-        rows.put_beside(table, c, runs.run(c), usize::MAX);
+        rows.put_beside(table, c, runs.run(c), None);
         least = least.min(least_above(charges, table));
     }
     if 2_305_843_009_213_693_952 < least {

@@ -8,7 +8,7 @@ ghost use Rattle.mill_model.specs.declared.order.Order.{Order};
 ghost use Rattle.set_minima.specs.Packs.{better, with_price, IsTable};
 ghost use Rattle.set_minima.specs.Cells.{cell, nothing, found, IsNear, AreNear, IsSmall};
 ghost use Rattle.colour_tables.specs.Entries.{entry};
-ghost use Rattle.colour_tables.specs.Colours.{but_order};
+ghost use Rattle.colour_tables.specs.Colours.{but_for, of_colour_but};
 ghost use Rattle.colour_tables.specs.Items.{IsRun, AreSmall, let_in, places};
 
 use crate::items::Item;
@@ -101,8 +101,18 @@ pub(crate) fn clear(table: &mut [i64])
     table[0] = 0;
 }
 
+/// Whether an order is let in, where one of them may have to be skipped.
+fn is_let_in(place: usize, skip: Option<usize>) -> bool
+    ensures { result ≡ but_for skip place }
+{
+    match skip {
+        None => true,
+        Some(other) => place != other,
+    }
+}
+
 /// Lets an item into a table, where it isn't the one to skip.
-fn consider(table: &mut [i64], run: &[Item], t: usize, skip: usize)
+fn consider(table: &mut [i64], run: &[Item], t: usize, skip: Option<usize>)
     requires here { t < length run.now }
     requires small { AreSmall run.now }
     requires near { AreNear (2 ^ 59) table.old }
@@ -117,13 +127,13 @@ fn consider(table: &mut [i64], run: &[Item], t: usize, skip: usize)
     ensures near { (n : ℕ) → AreNear n table.old → AreNear (n + 20000000000) table.new }
 {
     let item = run[t];
-    if item.place != skip {
+    if is_let_in(item.place, skip) {
         add(table, item.weight, item.price);
     }
 }
 
-/// Lets the items of a run into a table, but for one.
-pub(crate) fn add_run(table: &mut [i64], run: &[Item], skip: usize)
+/// Lets the items of a run into a table, but for the one to skip.
+pub(crate) fn add_run(table: &mut [i64], run: &[Item], skip: Option<usize>)
     requires small { AreSmall run.now }
     requires near { AreNear (2 ^ 58) table.old }
     ensures best { (rest : List Order) → (prices : List ℤ) → (c : ℕ) →
@@ -140,13 +150,13 @@ pub(crate) fn add_run(table: &mut [i64], run: &[Item], skip: usize)
     }
 }
 
-/// The table of a run alone, but for one item.
-pub(crate) fn fill_run(table: &mut [i64], run: &[Item], skip: usize)
+/// The table of a run alone, but for the item to skip.
+pub(crate) fn fill_run(table: &mut [i64], run: &[Item], skip: Option<usize>)
     requires some { 0 < length table.old }
     requires small { AreSmall run.now }
     ensures best { (rest : List Order) → (prices : List ℤ) → (c : ℕ) →
         IsRun rest prices c run.now →
-        IsTable (but_order rest c skip) (c ∷ []) 1 rest prices (length table.old)
+        IsTable (of_colour_but rest c skip) (c ∷ []) 1 rest prices (length table.old)
         (cell table.new) }
     ensures near { AreNear 20480000000000 table.new }
 {

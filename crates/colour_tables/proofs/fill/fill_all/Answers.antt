@@ -27,15 +27,15 @@ loop-t-preserved c =
     let other = subst (λ z. (i : ℕ) → i < d * z ⊎ d * z + z ≤ i →
     entry c.add_row.new.rows i ≡ entry c.loop-t.rows i) w c.add_row.ensures.other in
     record {
-      rows = λ rest prices name runs far.
+      rows = λ rest prices name runs.
           filled-rows cs c.requires.once t n c.loop-t-test.true c.loop-t.rows
           c.add_row.new.rows other rest prices name
-          (c.loop-t.invariant.rows rest prices name runs far)
+          (c.loop-t.invariant.rows rest prices name runs)
           (subst (λ z. IsTable (of_colour rest (name d)) (name d ∷ []) 1 rest prices z
           (λ l. found (row_entry c.add_row.new.rows z l d))) w
           (c.add_row.ensures.best rest prices (name d)
           (subst (λ xs. IsRun rest prices (name d) xs) (sym c.run.ensures.is)
-          (runs d (held-get t cs c.loop-t-test.true))) far));
+          (runs d (held-get t cs c.loop-t-test.true)))));
       tops = λ k a b.
           filled-tops cs c.requires.once t n c.loop-t-test.true c.loop-t.rows
           c.add_row.new.rows other k b (column c.loop-t.best c.loop-t.second c.loop-t.third k)

@@ -13,7 +13,7 @@ abbrev pub invariant-loop-t : goal.invariant-loop-t
 invariant-loop-t l = record {
   rows :
       (rest : List Order) (prices : List ℤ) (name : ℕ → ℕ) →
-      AreRuns rest prices name l.present l.runs → length rest < 18446744073709551615 →
+      AreRuns rest prices name l.present l.runs →
       (c : ℕ) → holds c (take l.t l.present) ≡ true →
       IsTable (of_colour rest (name c)) (name c ∷ []) 1 rest prices (length l.fn.best)
       (λ i. found (row_entry l.rows (length l.fn.best) i c));

@@ -1,10 +1,10 @@
 use Rattle.std.proofs.Common.{ℕ, ◌≡◌, ◌+◌, ◌-◌, ◌*◌, ◌<◌, ◌≤◌, ◌⊎◌, ◌∷◌, [], ◌∙◌, length, sym}
-use Rattle.std.proofs.Common.{subst, arith, rules, inl, inr}
+use Rattle.std.proofs.Common.{subst, arith, rules, inl, inr, None}
 use Rattle.set_minima.specs.Packs.{IsTable, IsBest}
 use Rattle.colour_tables.specs.Entries.{entry}
 use Rattle.set_minima.specs.Cells.{found, cell}
 use Rattle.colour_tables.specs.Threes.{row_entry}
-use Rattle.colour_tables.specs.Colours.{of_colour, but_order}
+use Rattle.colour_tables.specs.Colours.{of_colour, of_colour_but}
 use Rattle.set_minima.proofs.CellNumbers.{near-wider}
 use Rattle.colour_tables.proofs.PartWritten.{mid-in, mid-below, mid-above}
 use Rattle.colour_tables.proofs.OneRowPriced.{rows-near}
@@ -45,12 +45,12 @@ outside c i (inr h) =
     c.fill_run.new.table i (omega (arith, c.requires.inside)) (long c) (omega arith)
 
 pub returns-clause-best : goal.returns-clause-best
-returns-clause-best c rest prices x run far l b =
+returns-clause-best c rest prices x run l b =
     subst (λ z. IsBest (of_colour rest x) (x ∷ []) 1 rest prices l (found z)) (sym (inside c l b))
-    (table-allowed rest prices (but_order rest x 18446744073709551615) (of_colour rest x) (x ∷ []) 1
+    (table-allowed rest prices (of_colour_but rest x None) (of_colour rest x) (x ∷ []) 1
     c.args.width (cell c.fill_run.new.table)
-    (λ i h. none-skipped rest x 18446744073709551615 i (omega arith) h)
-    (subst (λ z. IsTable (but_order rest x 18446744073709551615) (x ∷ []) 1 rest prices z
+    (λ i h. none-skipped rest x i)
+    (subst (λ z. IsTable (of_colour_but rest x None) (x ∷ []) 1 rest prices z
     (cell c.fill_run.new.table)) (sym c.fill_run.auto.table ∙ long c ∙ room c)
     (c.fill_run.ensures.best rest prices x run)) l b)
 

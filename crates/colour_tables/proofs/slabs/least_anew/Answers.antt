@@ -8,12 +8,11 @@ use Rattle.colour_tables.specs.Leasts.{AreCharged}
 use Rattle.colour_tables.specs.Items.{IsRun}
 use Rattle.colour_tables.specs.Leasts.{IsRoom, JoinsSome, IsLeast}
 use Rattle.colour_tables.proofs.RowsFilled.{index-is, index-held}
-use Rattle.colour_tables.proofs.SlacksFromTables.{least-all}
 use Rattle.colour_tables.proofs.NewSlabs.{some-none, some-more, some-all, slack-anew}
 use Rattle.colour_tables.proofs.slabs.least_anew.Goals as goal
 
 pub loop-t-init : goal.loop-t-init
-loop-t-init c rest prices name charge largest rows runs far room charged =
+loop-t-init c rest prices name charge largest rows runs room charged =
     let f : SFits w64 (get_or c.args.charges.now 0 (pos 0)) = search rules in
     simp to_z-of_z (some-none rest prices name charge largest rows.orders
     (get_or c.args.charges.now 0 (pos 0)) (c.requires.charges 0) (charged 0 c.requires.some))
@@ -34,7 +33,7 @@ least_beside-beside-requires-clause-held c =
     index-held c.args.rows.now.present.items c.loop-t.t c.index-c.result.now b c.index-c.ensures
 
 pub loop-t-preserved : goal.loop-t-preserved
-loop-t-preserved c rest prices name charge largest rows runs far room charged =
+loop-t-preserved c rest prices name charge largest rows runs room charged =
     let cs = c.args.rows.now.present.items in
     let t = c.loop-t.t in
     let d = c.index-c.result.now in
@@ -47,21 +46,19 @@ loop-t-preserved c rest prices name charge largest rows runs far room charged =
     let beside = c.least_beside-beside.ensures.is rest prices name charge largest 0 rows
     (subst (λ xs. IsRun rest prices (name d) xs) (sym c.run.ensures.is)
     (runs d (index-held cs t d b c.index-c.ensures)))
-    (λ q. absurd (omega arith)) (subst (λ z. IsRoom largest 0 z) (sym w) room)
+    tt (subst (λ z. IsRoom largest 0 z) (sym w) room)
     (subst (λ z. AreCharged charge 0 z c.args.charges.now) (sym w) charged) in
-    let least = least-all rest prices charge largest 0 (name d ∷ []) c.least_beside-beside.result
-    18446744073709551615 (omega arith) beside in
     simp to_z-of_z (subst (λ z. IsTop (JoinsSome rest name largest (take (t + 1) cs))
     (gain charge 0 rest prices) (found (neg_ℤ z))) (sym v)
     (some-more rest prices name charge largest cs t b (to_z w64 c.loop-t.least-bits)
     c.least_beside-beside.result
-    (c.loop-t.invariant rest prices name charge largest rows runs far room charged)
+    (c.loop-t.invariant rest prices name charge largest rows runs room charged)
     (subst (λ z. IsLeast rest prices charge largest 0 all_places (name z ∷ [])
-    c.least_beside-beside.result) e least)))
+    c.least_beside-beside.result) e beside)))
 
 pub returns : goal.returns
 returns c = record {
-  is = λ rest prices name charge largest rows runs far room charged.
+  is = λ rest prices name charge largest rows runs room charged.
       let e : take c.loop-t.t c.args.rows.now.present.items ≡ c.args.rows.now.present.items =
       take_all c.loop-t.t c.args.rows.now.present.items (search rules) in
       slack-anew rest prices name charge largest (to_z w64 c.loop-t.least-bits)
@@ -69,5 +66,5 @@ returns c = record {
       (to_z w64 c.loop-t.least-bits) rows.all
       (subst (λ z. IsTop (JoinsSome rest name largest z) (gain charge 0 rest prices)
       (found (neg_ℤ (to_z w64 c.loop-t.least-bits)))) e
-      (c.loop-t.invariant rest prices name charge largest rows runs far room charged)));
+      (c.loop-t.invariant rest prices name charge largest rows runs room charged)));
 }

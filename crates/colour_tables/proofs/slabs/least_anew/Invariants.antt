@@ -13,7 +13,7 @@ abbrev pub invariant-loop-t : goal.invariant-loop-t
 invariant-loop-t l =
     (rest : List Order) (prices : List ℤ) (name : ℕ → ℕ) (charge : ℕ → ℕ) (largest : ℕ) →
     AreRows rest prices name l.rows → AreRuns rest prices name l.rows.present.items l.runs →
-    length rest < 18446744073709551615 → IsRoom largest 0 (length l.fn.table) →
+    IsRoom largest 0 (length l.fn.table) →
     AreCharged charge 0 (length l.fn.table) l.charges →
     IsTop (JoinsSome rest name largest (take l.t l.rows.present.items))
     (gain charge 0 rest prices) (found (neg_ℤ l.least))

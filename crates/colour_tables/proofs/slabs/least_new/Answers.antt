@@ -2,15 +2,13 @@ use Rattle.std.proofs.Common.{◌≡◌, ◌+◌, ◌<◌, ◌∷◌, [], ◌∙
 use Rattle.std.proofs.Common.{SFits, w64, to_z, to_z-of_z, rules}
 use Rattle.std.proofs.lemmas.List.{take_all}
 use Rattle.set_minima.specs.Packs.{IsTop, IsTable}
-use Rattle.set_minima.specs.Joins.{gain, Packed, Joins, all_places, all_but}
+use Rattle.set_minima.specs.Joins.{gain, Packed, Joins, all_places}
 use Rattle.set_minima.proofs.Gains.{joins-top}
 use Rattle.set_minima.specs.Cells.{found, cell}
 use Rattle.colour_tables.specs.Leasts.{AreCharged}
 use Rattle.colour_tables.specs.Items.{IsRun}
 use Rattle.colour_tables.specs.Leasts.{MakesSome}
 use Rattle.colour_tables.proofs.RowsFilled.{index-is, index-held}
-use Rattle.set_minima.proofs.WholeTables.{table-allowed}
-use Rattle.colour_tables.proofs.SlacksFromTables.{skip-none}
 use Rattle.colour_tables.proofs.NewSlabs.{makes-more, makes-all, least-none, least-some}
 use Rattle.colour_tables.proofs.slabs.least_new.Goals as goal
 
@@ -30,7 +28,7 @@ put_beside-requires-clause-held c =
     index-held c.args.rows.now.present.items c.loop-t.t c.index-c.result.now b c.index-c.ensures
 
 pub loop-t-preserved : goal.loop-t-preserved
-loop-t-preserved c rest prices name charge largest rows runs far room charged =
+loop-t-preserved c rest prices name charge largest rows runs room charged =
     let cs = c.args.rows.now.present.items in
     let t = c.loop-t.t in
     let d = c.index-c.result.now in
@@ -43,12 +41,9 @@ loop-t-preserved c rest prices name charge largest rows runs far room charged =
     let u : length c.loop-t.table ≡ length c.args.table.now = search rules in
     let beside = c.put_beside.ensures.is rest prices name rows
     (subst (λ xs. IsRun rest prices (name d) xs) (sym c.run.ensures.is)
-    (runs d (index-held cs t d b c.index-c.ensures))) (λ q. absurd (omega arith)) in
-    let table = table-allowed rest prices (all_but 18446744073709551615) all_places (name d ∷ []) 2
-    (length c.put_beside.new.table) (cell c.put_beside.new.table)
-    (λ i h. skip-none rest 18446744073709551615 i (omega arith) h)
-    (subst (λ z. IsTable (all_but 18446744073709551615) (name d ∷ []) 2 rest prices z
-    (cell c.put_beside.new.table)) (u ∙ sym w) beside) in
+    (runs d (index-held cs t d b c.index-c.ensures))) tt in
+    let table = subst (λ z. IsTable all_places (name d ∷ []) 2 rest prices z
+    (cell c.put_beside.new.table)) (u ∙ sym w) beside in
     let top = c.least_above.ensures.top all_places (name d ∷ []) 2 rest prices charge 0
     (subst (λ z. AreCharged charge 0 z c.args.charges.now) (sym w) charged) table in
     let joins = joins-top all_places 1 largest 0 2 (name d ∷ []) rest prices charge
@@ -59,32 +54,32 @@ loop-t-preserved c rest prices name charge largest rows runs far room charged =
     (gain charge 0 rest prices) (found (neg_ℤ z))) (sym v)
     (makes-more rest prices name charge largest cs t b (to_z w64 c.loop-t.least-bits)
     c.least_above.result
-    (c.loop-t.invariant rest prices name charge largest rows runs far room charged)
+    (c.loop-t.invariant rest prices name charge largest rows runs room charged)
     (subst (λ z. IsTop (Joins all_places 1 largest 0 (name z ∷ []) 2 rest)
     (gain charge 0 rest prices) (found (neg_ℤ c.least_above.result))) e joins)))
 
 pub returns-then-least-gt2305843009213693952 : goal.returns-then-least-gt2305843009213693952
 returns-then-least-gt2305843009213693952 c = record {
-  is = λ rest prices name charge largest rows runs far room charged.
+  is = λ rest prices name charge largest rows runs room charged.
       let e : take c.loop-t.t c.args.rows.now.present.items ≡ c.args.rows.now.present.items =
       take_all c.loop-t.t c.args.rows.now.present.items (search rules) in
       sym (makes-all rest prices name charge largest c.args.rows.now.present.items
       (to_z w64 c.loop-t.least-bits) rows.orders rows.all
       (subst (λ z. IsTop (MakesSome rest name largest z) (gain charge 0 rest prices)
       (found (neg_ℤ (to_z w64 c.loop-t.least-bits)))) e
-      (c.loop-t.invariant rest prices name charge largest rows runs far room charged))
+      (c.loop-t.invariant rest prices name charge largest rows runs room charged))
       ∙ least-none (to_z w64 c.loop-t.least-bits) c.if-least-gt2305843009213693952.true);
 }
 
 pub returns-else-least-gt2305843009213693952 : goal.returns-else-least-gt2305843009213693952
 returns-else-least-gt2305843009213693952 c = record {
-  is = λ rest prices name charge largest rows runs far room charged.
+  is = λ rest prices name charge largest rows runs room charged.
       let e : take c.loop-t.t c.args.rows.now.present.items ≡ c.args.rows.now.present.items =
       take_all c.loop-t.t c.args.rows.now.present.items (search rules) in
       sym (makes-all rest prices name charge largest c.args.rows.now.present.items
       (to_z w64 c.loop-t.least-bits) rows.orders rows.all
       (subst (λ z. IsTop (MakesSome rest name largest z) (gain charge 0 rest prices)
       (found (neg_ℤ (to_z w64 c.loop-t.least-bits)))) e
-      (c.loop-t.invariant rest prices name charge largest rows runs far room charged))
+      (c.loop-t.invariant rest prices name charge largest rows runs room charged))
       ∙ least-some (to_z w64 c.loop-t.least-bits) c.if-least-gt2305843009213693952.false);
 }

@@ -9,7 +9,7 @@ use Rattle.colour_tables.specs.Owned.{IsOwn, IsHeld}
 use Rattle.colour_tables.proofs.ColoursPaid.{but-less}
 use Rattle.colour_tables.proofs.GreatestBut.{best-near}
 use Rattle.colour_tables.proofs.OwnTables.{bare-table, row-table, row-cells, near-large}
-use Rattle.colour_tables.proofs.SlacksFromTables.{least-top, slack-on, least-all}
+use Rattle.colour_tables.proofs.SlacksFromTables.{least-top, slack-on}
 use Rattle.colour_tables.proofs.slabs.least_on.Goals as goal
 
 pub least_front-requires-clause-near : goal.least_front-requires-clause-near
@@ -28,7 +28,7 @@ run-requires-in-Two c =
 
 pub returns-in-Bare : goal.returns-in-Bare
 returns-in-Bare c = record {
-  is = λ rest prices name charge largest base colours rows runs far own room charged group of.
+  is = λ rest prices name charge largest base colours rows runs own room charged group of.
       let f : SFits w64 c.least_front.result = search rules in
       let o = subst (λ z. IsOwn rest name colours z) c.in-Bare.is own in
       let n = length c.args.table.now in
@@ -45,23 +45,22 @@ returns-in-Bare c = record {
 
 pub returns-in-Free : goal.returns-in-Free
 returns-in-Free c = record {
-  is = λ rest prices name charge largest base colours rows runs far own room charged group of.
+  is = λ rest prices name charge largest base colours rows runs own room charged group of.
       let f : SFits w64 c.least_beside.result = search rules in
       let d = c.in-Free.d in
       let o = subst (λ z. IsOwn rest name colours z) c.in-Free.is own in
       let h = subst (λ z. IsHeld c.args.rows.now.present.items z) c.in-Free.is c.requires.held in
       let least = c.least_beside.ensures.is rest prices name charge largest base rows
       (subst (λ xs. IsRun rest prices (name d) xs) (sym c.run.ensures.is) (runs d h))
-      (λ q. absurd (omega arith)) room charged in
+      tt room charged in
       simp to_z-of_z (sym (slack-on rest prices charge largest base (name d ∷ [])
       c.least_beside.result room.fits (omega arith)
-      (least-all rest prices charge largest base (name d ∷ []) c.least_beside.result
-      18446744073709551615 (omega arith) least) group (subst (λ z. IsSlab group base z) o of)));
+      least group (subst (λ z. IsSlab group base z) o of)));
 }
 
 pub returns-in-One : goal.returns-in-One
 returns-in-One c = record {
-  is = λ rest prices name charge largest base colours rows runs far own room charged group of.
+  is = λ rest prices name charge largest base colours rows runs own room charged group of.
       let f : SFits w64 c.least_front-in-One.result = search rules in
       let d = c.in-One.d in
       let t = c.args.rows.now in
@@ -82,7 +81,7 @@ returns-in-One c = record {
 
 pub returns-in-Two : goal.returns-in-Two
 returns-in-Two c = record {
-  is = λ rest prices name charge largest base colours rows runs far own room charged group of.
+  is = λ rest prices name charge largest base colours rows runs own room charged group of.
       let f : SFits w64 c.least_pair.result = search rules in
       let d = c.in-Two.d in
       let e = c.in-Two.e in
@@ -91,16 +90,15 @@ returns-in-Two c = record {
       let least = c.least_pair.ensures.is rest prices name charge largest base e colours rows
       (subst (λ xs. IsRun rest prices (name e) xs) (sym c.run-in-Two.ensures.is)
       (runs e (but-less d e c.args.rows.now.present.items h.1).1))
-      h.1 (λ q. absurd (omega arith)) o.0 o.2 o.1 room charged in
+      h.1 tt o.0 o.2 o.1 room charged in
       simp to_z-of_z (sym (slack-on rest prices charge largest base colours
       c.least_pair.result room.fits (omega (arith, o.0))
-      (least-all rest prices charge largest base colours c.least_pair.result
-      18446744073709551615 (omega arith) least) group of));
+      least group of));
 }
 
 pub returns-in-Full : goal.returns-in-Full
 returns-in-Full c = record {
-  is = λ rest prices name charge largest base colours rows runs far own room charged group of.
+  is = λ rest prices name charge largest base colours rows runs own room charged group of.
       let f : SFits w64 c.least_of_none.result = search rules in
       let o = subst (λ z. IsOwn rest name colours z) c.in-Full.is own in
       simp to_z-of_z (sym (slack-on rest prices charge largest base colours

@@ -87,7 +87,7 @@ returns-else-d-c c = record {
       (subst (λ xs. IsRun rest prices a xs) (sym c.run.ensures.is) (runs c.args.c
       c.requires.colour))
       (but-more d c.args.c cs (ne_eqb c.args.c d (λ q. c.if-d-c.false (sym q)))
-      c.requires.colour) (λ q. turn.colour) (two-different a x apart)
+      c.requires.colour) turn.colour (two-different a x apart)
       (holds-first a (x ∷ [])) (holds-second a x) room charged in
       simp to_z-of_z (slack-with-own rest prices charge largest base n colours now
       c.least_pair.result j v turn.here rows.same room
@@ -144,7 +144,7 @@ returns-then-d-c-2 c = record {
       let least = c.least_pair-then-d-c-2.ensures.is rest prices name charge largest
       (base + (get_or rest j nobody).weight) c.args.c colours rows
       (subst (λ xs. IsRun rest prices a xs) (sym c.run-then-d-c-2.ensures.is)
-      (runs c.args.c c.requires.colour)) other (λ q. turn.colour) o.0 has o.2 room charged in
+      (runs c.args.c c.requires.colour)) other turn.colour o.0 has o.2 room charged in
       simp to_z-of_z (slack-with-own rest prices charge largest base n colours colours
       c.least_pair-then-d-c-2.result j v turn.here rows.same room
       (subst (λ z. with_colour z colours ≡ colours) (sym turn.colour) (with-old a colours has))
@@ -171,7 +171,7 @@ returns-else-d-c-2 c = record {
       let least = c.least_pair-in-Two.ensures.is rest prices name charge largest
       (base + (get_or rest j nobody).weight) c.args.c colours rows
       (subst (λ xs. IsRun rest prices a xs) (sym c.run-in-Two.ensures.is)
-      (runs c.args.c c.requires.colour)) other (λ q. turn.colour) o.0 has o.1 room charged in
+      (runs c.args.c c.requires.colour)) other turn.colour o.0 has o.1 room charged in
       simp to_z-of_z (slack-with-own rest prices charge largest base n colours colours
       c.least_pair-in-Two.result j v turn.here rows.same room
       (subst (λ z. with_colour z colours ≡ colours) (sym turn.colour) (with-old a colours has))

@@ -16,7 +16,7 @@ use Rattle.colour_tables.proofs.slabs.least_without.Goals as goal
 pub returns-in-Bare : goal.returns-in-Bare
 returns-in-Bare c = record {
   is = λ rest prices
-      name charge largest base colours rows runs far turn own room charged v group of.
+      name charge largest base colours rows runs turn own room charged v group of.
       let f : SFits w64 c.least_bare.result = search rules in
       let o = subst (λ z. IsOwn rest name colours z) c.in-Bare.is own in
       let j = c.args.j in
@@ -30,7 +30,7 @@ returns-in-Bare c = record {
 pub returns-then-d-c : goal.returns-then-d-c
 returns-then-d-c c = record {
   is = λ rest prices
-      name charge largest base colours rows runs far turn own room charged v group of.
+      name charge largest base colours rows runs turn own room charged v group of.
       let f : SFits w64 c.least_front.result = search rules in
       let o = subst (λ z. IsOwn rest name colours z) c.in-Free.is own in
       let n = length c.args.table.now in
@@ -54,14 +54,14 @@ least_apart-requires-clause-other c =
 pub returns-else-d-c : goal.returns-else-d-c
 returns-else-d-c c = record {
   is = λ rest prices
-      name charge largest base colours rows runs far turn own room charged v group of.
+      name charge largest base colours rows runs turn own room charged v group of.
       let f : SFits w64 c.least_apart.result = search rules in
       let o = subst (λ z. IsOwn rest name colours z) c.in-Free.is own in
       let h = subst (λ z. IsHeld c.args.rows.now.present.items z) c.in-Free.is c.requires.held in
       let d = c.in-Free.d in
       let j = c.args.j in
       let least = c.least_apart.ensures.is rest prices name charge largest base j rows
-      (subst (λ xs. IsRun rest prices (name d) xs) (sym c.run.ensures.is) (runs d h)) far
+      (subst (λ xs. IsRun rest prices (name d) xs) (sym c.run.ensures.is) (runs d h))
       turn.here turn.colour (λ l b. turn.alone l (omega (arith, c.requires.few))) room charged
       in
       simp to_z-of_z (slack-without-priced rest prices charge largest base (name d ∷ [])
@@ -72,7 +72,7 @@ returns-else-d-c c = record {
 pub returns-in-One : goal.returns-in-One
 returns-in-One c = record {
   is = λ rest prices
-      name charge largest base colours rows runs far turn own room charged v group of.
+      name charge largest base colours rows runs turn own room charged v group of.
       let f : SFits w64 c.least_front-in-One.result = search rules in
       let o = subst (λ z. IsOwn rest name colours z) c.in-One.is own in
       let e = subst (λ z. MayTake c.args.c z) c.in-One.is c.requires.takes in
@@ -99,7 +99,7 @@ least_pair-requires-clause-held c =
 pub returns-then-d-c-2 : goal.returns-then-d-c-2
 returns-then-d-c-2 c = record {
   is = λ rest prices
-      name charge largest base colours rows runs far turn own room charged v group of.
+      name charge largest base colours rows runs turn own room charged v group of.
       let f : SFits w64 c.least_pair.result = search rules in
       let o = subst (λ z. IsOwn rest name colours z) c.in-Two.is own in
       let h = subst (λ z. IsHeld c.args.rows.now.present.items z) c.in-Two.is c.requires.held in
@@ -114,7 +114,7 @@ returns-then-d-c-2 c = record {
       subst (λ z. holds z (but e cs) ≡ true) c.if-d-c-2.true (row-without d e cs h.1 h.0) in
       let least = c.least_pair.ensures.is rest prices name charge largest base c.args.c colours
       rows (subst (λ xs. IsRun rest prices a xs) (sym c.run-then-d-c-2.ensures.is)
-      (runs c.args.c c.requires.colour)) other (λ q. turn.colour) o.0 has o.2 room charged in
+      (runs c.args.c c.requires.colour)) other turn.colour o.0 has o.2 room charged in
       simp to_z-of_z (slack-without-priced rest prices charge largest base colours
       c.least_pair.result j v room.fits (omega (arith, o.0)) least group of);
 }
@@ -122,7 +122,7 @@ returns-then-d-c-2 c = record {
 pub returns-else-d-c-2 : goal.returns-else-d-c-2
 returns-else-d-c-2 c = record {
   is = λ rest prices
-      name charge largest base colours rows runs far turn own room charged v group of.
+      name charge largest base colours rows runs turn own room charged v group of.
       let f : SFits w64 c.least_pair-in-Two.result = search rules in
       let o = subst (λ z. IsOwn rest name colours z) c.in-Two.is own in
       let h = subst (λ z. IsHeld c.args.rows.now.present.items z) c.in-Two.is c.requires.held in
@@ -138,7 +138,7 @@ returns-else-d-c-2 c = record {
       subst (λ z. holds z (but d cs) ≡ true) s h.1 in
       let least = c.least_pair-in-Two.ensures.is rest prices name charge largest base c.args.c
       colours rows (subst (λ xs. IsRun rest prices a xs) (sym c.run-in-Two.ensures.is)
-      (runs c.args.c c.requires.colour)) other (λ q. turn.colour) o.0 has o.1 room charged in
+      (runs c.args.c c.requires.colour)) other turn.colour o.0 has o.1 room charged in
       simp to_z-of_z (slack-without-priced rest prices charge largest base colours
       c.least_pair-in-Two.result j v room.fits (omega (arith, o.0)) least group of);
 }

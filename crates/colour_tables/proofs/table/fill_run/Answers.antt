@@ -4,7 +4,7 @@ use Rattle.set_minima.specs.Packs.{IsBest, IsTable}
 use Rattle.set_minima.proofs.OneColour.{table-none, table-empty}
 use Rattle.set_minima.specs.Cells.{cell}
 use Rattle.colour_tables.specs.Items.{let_in}
-use Rattle.colour_tables.specs.Colours.{but_order}
+use Rattle.colour_tables.specs.Colours.{of_colour_but}
 use Rattle.set_minima.proofs.CellNumbers.{near-wider}
 use Rattle.set_minima.proofs.WholeTables.{table-allowed}
 use Rattle.colour_tables.proofs.RunsLetIn.{run-let_in, self-holds}
@@ -13,10 +13,10 @@ use Rattle.colour_tables.proofs.table.fill_run.Goals as goal
 pub returns-clause-best : goal.returns-clause-best
 returns-clause-best c rest prices colour is =
     let w : length c.clear.new.table ≡ length c.args.table.now = c.clear.auto.table in
-    subst (λ z. IsTable (but_order rest colour c.args.skip) (colour ∷ []) 1 rest prices z
+    subst (λ z. IsTable (of_colour_but rest colour c.args.skip) (colour ∷ []) 1 rest prices z
     (cell c.add_run.new.table)) w
     (table-allowed rest prices (let_in (λ i. false) c.args.run.now c.args.skip
-    (length c.args.run.now)) (but_order rest colour c.args.skip) (colour ∷ []) 1
+    (length c.args.run.now)) (of_colour_but rest colour c.args.skip) (colour ∷ []) 1
     (length c.clear.new.table) (cell c.add_run.new.table)
     (λ i b. run-let_in rest prices colour c.args.run.now is (λ i. false) c.args.skip i b)
     (c.add_run.ensures.best rest prices colour is (λ i. false) (colour ∷ []) 1

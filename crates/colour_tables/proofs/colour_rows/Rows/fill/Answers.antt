@@ -10,7 +10,7 @@ use Rattle.colour_tables.proofs.OneRowPriced.{rows-filled}
 use Rattle.colour_tables.proofs.colour_rows.Rows.fill.Goals as goal
 
 pub returns-clause-is : goal.returns-clause-is
-returns-clause-is c rest prices name orders same far once all runs =
+returns-clause-is c rest prices name orders same once all runs =
     let t = c.args.self.now in
     let w : length c.deref_mut-2.result.now ≡ t.width =
     ap length c.deref_mut-2.ensures.value ∙ c.requires.sized.best in
@@ -20,4 +20,4 @@ returns-clause-is c rest prices name orders same far once all runs =
     (λ l. found (row_entry c.fill_all.new.rows z l x))) w
     (c.fill_all.ensures.rows rest prices name
     (subst (λ xs. AreRuns rest prices name xs c.args.runs.now) (sym c.deref.ensures.value) runs)
-    far x (subst (λ xs. holds x xs ≡ true) (sym c.deref.ensures.value) h)))
+    x (subst (λ xs. holds x xs ≡ true) (sym c.deref.ensures.value) h)))

@@ -12,13 +12,13 @@ least-requires-clause-near c l =
 
 pub returns : goal.returns
 returns c = record {
-  is = λ rest prices name charge largest base j rows run few here at alone room charged.
+  is = λ rest prices name charge largest base j rows run here at alone room charged.
       let f : SFits w64 c.least.result = search rules in
       let e = c.least.ensures.top in
       simp to_z-of_z (least-over rest prices charge largest base (length c.args.table.now)
       (length c.put_apart.new.table) (all_but j) (name c.args.d ∷ []) c.args.charges.now
       c.put_apart.new.table
       c.least.result c.put_apart.auto.table room charged
-      (c.put_apart.ensures.is rest prices name j rows run few here at alone)
+      (c.put_apart.ensures.is rest prices name j rows run here at alone)
       (λ p q. e (all_but j) (name c.args.d ∷ []) 2 rest prices charge base p q));
 }

@@ -1,4 +1,4 @@
-use Rattle.std.proofs.Common.{◌+◌, ◌≤◌, ◌∷◌, [], map, length, arith, get_or, pos}
+use Rattle.std.proofs.Common.{◌+◌, None, ◌∷◌, [], map, length, arith, get_or, pos}
 use Rattle.set_minima.specs.Joins.{all_but}
 use Rattle.set_minima.specs.Cells.{cell}
 use Rattle.colour_tables.specs.Threes.{but}
@@ -10,18 +10,17 @@ use Rattle.colour_tables.proofs.AllowedByTables.{two-without, two-all}
 use Rattle.colour_tables.proofs.colour_rows.Rows.put_apart.Goals as goal
 
 pub returns-clause-is : goal.returns-clause-is
-returns-clause-is c rest prices name j rows run few here at alone =
+returns-clause-is c rest prices name j rows run here at alone =
     let t = c.args.self.now in
     let A = apart_from rest (map name (but c.args.d (but c.args.c t.present.items)))
     (name c.args.c) j in
-    let far : length rest ≤ 18446744073709551615 = omega arith in
     run-table rest prices (name c.args.d) c.args.run.now run A (all_but j)
-    (name c.args.d ∷ []) 2 18446744073709551615 (length c.args.table.now)
+    (name c.args.d ∷ []) 2 None (length c.args.table.now)
     c.put_others_of_two.new.table c.add_run.new.table c.put_others_of_two.auto.table
     (λ i b h. two-without rest name t.present.items rows.once rows.all c.args.c c.requires.held
     c.args.d c.requires.other j i b h)
     (λ i b. two-all rest name t.present.items rows.once rows.all c.args.c c.requires.held
-    c.args.d c.requires.other j 18446744073709551615 at far i b)
+    c.args.d c.requires.other j at i b)
     (paid-table rest prices A (name c.args.d) (length c.args.table.now)
     (cell c.put_others_of_two.new.table)
     (λ i b h. two-without rest name t.present.items rows.once rows.all c.args.c c.requires.held

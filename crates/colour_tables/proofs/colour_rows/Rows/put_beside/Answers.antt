@@ -1,8 +1,7 @@
 use Rattle.std.proofs.Common.{◌+◌, ◌∷◌, [], map, length, arith, get_or, pos}
-use Rattle.set_minima.specs.Joins.{all_but}
 use Rattle.set_minima.specs.Cells.{cell}
 use Rattle.colour_tables.specs.Threes.{but}
-use Rattle.colour_tables.specs.Colours.{of_colours}
+use Rattle.colour_tables.specs.Colours.{of_colours, but_for}
 use Rattle.set_minima.proofs.CellNumbers.{near-wider}
 use Rattle.colour_tables.proofs.ColoursPaid.{paid-table}
 use Rattle.colour_tables.proofs.RunsLetIn.{run-table, self-holds}
@@ -13,7 +12,7 @@ pub returns-clause-is : goal.returns-clause-is
 returns-clause-is c rest prices name rows run at =
     let t = c.args.self.now in
     let A = of_colours rest (map name (but c.args.c t.present.items)) in
-    run-table rest prices (name c.args.c) c.args.run.now run A (all_but c.args.skip)
+    run-table rest prices (name c.args.c) c.args.run.now run A (but_for c.args.skip)
     (name c.args.c ∷ []) 2 c.args.skip (length c.args.table.now) c.put_others.new.table
     c.add_run.new.table c.put_others.auto.table
     (λ i b h. not-c rest name t.present.items rows.once rows.all c.args.c c.requires.held i h)

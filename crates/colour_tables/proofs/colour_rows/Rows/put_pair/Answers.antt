@@ -1,10 +1,9 @@
 use Rattle.std.proofs.Common.{◌+◌, ◌∷◌, [], ◌||◌, length, arith, subst, sym, get_or, pos, refl}
 use Rattle.set_minima.specs.Packs.{IsTable}
-use Rattle.set_minima.specs.Joins.{all_but}
 use Rattle.set_minima.specs.Cells.{cell, IsNear}
 use Rattle.colour_tables.specs.Entries.{entry}
 use Rattle.colour_tables.specs.Threes.{row_entry}
-use Rattle.colour_tables.specs.Colours.{of_colour, but_order}
+use Rattle.colour_tables.specs.Colours.{of_colour, of_colour_but, but_for}
 use Rattle.set_minima.proofs.CellNumbers.{near-wider}
 use Rattle.colour_tables.proofs.NearNumbers.{front-near}
 use Rattle.colour_tables.proofs.ColoursPaid.{own-table, full-table, front-table, but-less}
@@ -30,14 +29,14 @@ returns-clause-is c rest prices name colour own rows run other at two h k =
     (row_entry t.rows.items t.width) d c.row.result.now
     c.copy_from_slice.new.self c.requires.few c.copy_from_slice.ensures.after
     c.row.ensures.is (rows.rows d c.requires.held)) in
-    full-table rest prices (λ i. of_colour rest (name d) i || but_order rest (name colour) skip i)
-    (all_but skip) own 2 n (cell c.add_run.new.table) (sym two)
+    full-table rest prices (λ i. of_colour rest (name d) i || of_colour_but rest (name colour) skip i)
+    (but_for skip) own 2 n (cell c.add_run.new.table) (sym two)
     (λ i b a. pair-more rest name t.present.items rows.once rows.all colour held d
-    (row-without d colour t.present.items other c.requires.held) skip at i b a)
+    (row-without d colour t.present.items other c.requires.held) skip at i a)
     (λ i b a e. pair-less rest name t.present.items rows.once rows.all colour held d
     (row-without d colour t.present.items other c.requires.held) own two h k skip i a e)
     (run-table rest prices (name colour) c.args.run.now run A
-    (λ i. of_colour rest (name d) i || but_order rest (name colour) skip i)
+    (λ i. of_colour rest (name d) i || of_colour_but rest (name colour) skip i)
     own 2 skip n c.copy_from_slice.new.self c.add_run.new.table c.copy_from_slice.ensures.len
     (λ i b a. row-other rest (name d) (name colour)
     (apart rest name t.present.items rows.once rows.all colour held d

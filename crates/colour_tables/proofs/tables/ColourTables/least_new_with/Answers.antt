@@ -15,7 +15,6 @@ returns c =
     let i = c.self.invariant in
     let name : ℕ → ℕ = λ c. get_or t.colours.items c 0 in
     let charge : ℕ → ℕ = charge_of t.charges.now in
-    let far : length t.rest.now < 18446744073709551615 = omega (arith, i.few) in
     let q = subst (λ (o : PricedOrders). IsTurnOf o c.args.turn.now) (sym c.self.view_is)
     c.requires.turn in
     let d = c.args.turn.now.colour in

@@ -11,7 +11,6 @@ returns c =
     let i = c.self.invariant in
     let name : ℕ → ℕ = λ c. get_or t.colours.items c 0 in
     let charge : ℕ → ℕ = charge_of t.charges.now in
-    let far : length t.rest.now < 18446744073709551615 = omega (arith, i.few) in
     let work : length c.args.work.now ≡ t.largest + 1 =
     subst (λ (o : PricedOrders). length c.args.work.now ≡ o.largest + 1) (sym c.self.view_is)
     c.requires.work in
@@ -22,7 +21,7 @@ returns c =
     rw (← c.self.view_is) (record {
       is = λ group st.
           simp to_z-of_z (c.least_on.ensures.is t.rest.now t.prices.items name charge t.largest
-          c.args.slab.load st.own i.row_tables i.run_orders far st.is room
+          c.args.slab.load st.own i.row_tables i.run_orders st.is room
           (charged-from charge t.largest c.args.slab.load
           (length (take (t.largest - c.args.slab.load + 1) c.args.work.now)) t.paid.items
           c.deref.result.now c.deref.ensures.value i.reach i.charged room) group st.of);

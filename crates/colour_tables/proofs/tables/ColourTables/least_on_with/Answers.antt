@@ -13,7 +13,6 @@ returns c =
     let i = c.self.invariant in
     let name : ℕ → ℕ = λ c. get_or t.colours.items c 0 in
     let charge : ℕ → ℕ = charge_of t.charges.now in
-    let far : length t.rest.now < 18446744073709551615 = omega (arith, i.few) in
     let work : length c.args.work.now ≡ t.largest + 1 =
     subst (λ (o : PricedOrders). length c.args.work.now ≡ o.largest + 1) (sym c.self.view_is)
     c.requires.work in

@@ -12,7 +12,6 @@ returns c =
     let i = c.self.invariant in
     let name : ℕ → ℕ = λ c. get_or t.colours.items c 0 in
     let charge : ℕ → ℕ = charge_of t.charges.now in
-    let far : length t.rest.now < 18446744073709551615 = omega (arith, i.few) in
     let work : length c.args.work.now ≡ t.largest + 1 =
     subst (λ (o : PricedOrders). length c.args.work.now ≡ o.largest + 1) (sym c.self.view_is)
     c.requires.work in
@@ -25,7 +24,7 @@ returns c =
     rw (← c.self.view_is) (record {
       is = λ price group st.
           simp to_z-of_z (c.least_without.ensures.is t.rest.now t.prices.items name charge
-          t.largest c.args.slab.load st.own i.row_tables i.run_orders far
+          t.largest c.args.slab.load st.own i.row_tables i.run_orders
           (turn-from t.rest.now t.prices.items name (t.largest + 1) t.rows.width
           c.args.turn.now.colour c.args.turn.now.place c.args.turn.now.alone.items
           c.args.turn.now.beside.items c.deref-2.result.now c.deref-3.result.now i.width

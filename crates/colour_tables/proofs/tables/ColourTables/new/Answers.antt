@@ -87,7 +87,6 @@ invariant_of-result c =
     let kept = c.fill.ensures.present in
     let made = made-runs rest prices c.requires.few c.requires.orders c.requires.same small
     c.in_ok-sorted.sorted.items by runs st colours co it present is in
-    let far : length c.args.rest.now < 18446744073709551615 = omega (arith, c.requires.few) in
     let w : c.in_ok-rows.rows.width ≡ c.args.largest + 1 = search rules in
     record {
       few = c.requires.few;
@@ -107,7 +106,7 @@ invariant_of-result c =
           c.in_ok-sorted.sorted.items by runs st colours co it present is);
       row_tables =
           subst (λ xs. AreRows rest xs name c.fill.new.self) (sym e)
-          (c.fill.ensures.is rest prices name c.requires.orders c.requires.same far
+          (c.fill.ensures.is rest prices name c.requires.orders c.requires.same
           (made-names rest prices c.requires.few c.requires.orders c.requires.same small
           c.in_ok-sorted.sorted.items by runs st colours co it present is)
           (made-all rest prices c.requires.few c.requires.orders c.requires.same small

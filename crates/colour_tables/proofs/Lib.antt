@@ -27,3 +27,4 @@ pub mod PricesSet
 pub mod TurnTables
 pub mod TablesMade
 pub mod CannotJoin
+pub mod SlacksWithin

@@ -13,6 +13,12 @@ turn-from rest prices name w v c j alone beside alone' beside' e f g t =
     (subst (λ z. IsTurn rest prices name w c j z beside') (sym f)
     (subst (λ z. IsTurn rest prices name w c j alone z) (sym g) t))
 
+pub turn-wide : (rest : List Order) (prices : List ℤ) (name : ℕ → ℕ) (w v c j : ℕ)
+    (alone beside : List ℤ) → v ≡ w → IsTurn rest prices name w c j alone beside →
+    IsTurn rest prices name v c j alone beside
+turn-wide rest prices name w v c j alone beside e t =
+    subst (λ z. IsTurn rest prices name z c j alone beside) (sym e) t
+
 pub front-of : (allowed : ℕ → Bool) (own : List ℕ) (k : ℕ) (rest : List Order) (prices : List ℤ)
     (w n : ℕ) (table table' : List ℤ) → n ≤ w → table' ≡ table →
     IsTable allowed own k rest prices w (cell table) →

@@ -1,7 +1,9 @@
 -- The least slack of the sets of allowed orders that may join a slab with some load and colours.
 use Rattle.std.specs.Prelude.{ℕ, suc, pos, ◌+◌, ◌*◌, ◌<◌, ◌-◌, ◌≤◌, ◌≡◌, Bool, true, List, [], ◌∷◌}
 use Rattle.std.specs.Prelude.{◌⊎◌, ℤ, neg_ℤ}
+use Rattle.mill_model.specs.Limits.{all_prices}
 use Rattle.mill_model.specs.Slab.{Mill}
+use Rattle.mill_model.specs.declared.charges.TheConstants.{MAX_CHARGE}
 use Rattle.mill_model.specs.declared.order.Order.{Order}
 use Rattle.set_minima.specs.Packs.{IsTop}
 use Rattle.list_laws.specs.Sets.{holds}
@@ -14,6 +16,10 @@ abbrev pub IsLeast : List Order → List ℤ → (ℕ → ℕ) → ℕ → ℕ �
 IsLeast rest prices charge largest base allowed own least =
     IsTop (Joins allowed 0 largest base own 2 rest) (gain charge base rest prices)
     (found (neg_ℤ least))
+
+-- what a slack comes to at most, above 0 or below: the prices of all orders and one charge
+abbrev pub slack_limit : ℕ
+slack_limit = all_prices + 60 * MAX_CHARGE
 
 -- a table reaches to the room of a slab
 pub record IsRoom (largest base n : ℕ) : Type 0 where

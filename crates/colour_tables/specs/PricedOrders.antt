@@ -49,6 +49,9 @@ pub record AreTables (orders : PricedOrders) (runs : Runs) (rows : Rows) (paid :
 pub record IsKnown (orders : PricedOrders) (slab : Slab) : Type 0 where
   pub fits : slab.load ≤ orders.largest
   pub held : IsHeld (below (length orders.colours)) slab.own
+  pub own : List ℕ
+  pub apart : length own ≡ different own
+  pub is : IsOwn orders.rest (colour_of orders) own slab.own
 
 -- the slab of a group
 pub record StandsFor (orders : PricedOrders) (group : List Order) (slab : Slab) : Type 0 where

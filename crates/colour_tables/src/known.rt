@@ -94,7 +94,7 @@ impl<'a> ColourTables<'a> {
     }
 
     /// Whether the order in its turn may join a slab.
-    pub fn can_join(&self, slab: Slab, turn: &Turn) -> bool
+    pub(crate) fn can_join(&self, slab: Slab, turn: &Turn) -> bool
         requires known { IsKnown self.now slab }
         requires turn { IsTurnOf self.now turn.now }
         ensures joins { result ≡ true → MayJoin self.now turn.now slab }

@@ -26,6 +26,7 @@ use crate::gain::{least, least_above};
 use crate::items::Item;
 use crate::slab::Own;
 use crate::table::{clear, fill_run};
+use crate::turn::TurnTables;
 
 /// The orders to come, colour by colour.
 #[derive(Drop)]
@@ -203,20 +204,17 @@ pub(crate) fn least_with(
     table: &mut [i64],
     charges: &[i64],
     own: Own,
-    c: usize,
-    j: usize,
-    alone: &[i64],
-    beside: &[i64],
+    turn: &TurnTables,
 ) -> i64
     requires shaped { IsShaped rows.now }
     requires safe { AreRunsSafe rows.now.present.items runs.now }
     requires held { IsHeld rows.now.present.items own }
-    requires colour { holds c rows.now.present.items ≡ true }
-    requires takes { MayTake c own }
-    requires alone { AreNear 20500000000000 alone.now }
-    requires beside { AreNear 40980000000000 beside.now }
-    requires same { length alone.now ≡ rows.now.width }
-    requires wide { length beside.now ≡ rows.now.width }
+    requires colour { holds turn.now.colour rows.now.present.items ≡ true }
+    requires takes { MayTake turn.now.colour own }
+    requires alone { AreNear 20500000000000 turn.now.alone.now }
+    requires beside { AreNear 40980000000000 turn.now.beside.now }
+    requires same { length turn.now.alone.now ≡ rows.now.width }
+    requires wide { length turn.now.beside.now ≡ rows.now.width }
     requires some { 0 < length table.old }
     requires few { length table.old ≤ rows.now.width }
     requires reach { length table.old ≤ length charges.now }
@@ -224,28 +222,31 @@ pub(crate) fn least_with(
     ensures is { (rest : List Order) → (prices : List ℤ) → (name : ℕ → ℕ) → (charge : ℕ → ℕ) →
         (largest base : ℕ) → (colours : List ℕ) → AreRows rest prices name rows.now →
         AreRuns rest prices name rows.now.present.items runs.now →
-        IsTurn rest prices name rows.now.width c j alone.now beside.now →
+        IsTurn rest prices name rows.now.width turn.now.colour turn.now.place turn.now.alone.now
+        turn.now.beside.now →
         IsOwn rest name colours own →
-        IsRoom largest (base + (slice_index_or rest j nobody).weight) (length table.old) →
-        AreCharged charge (base + (slice_index_or rest j nobody).weight) (length table.old)
+        IsRoom largest (base + (slice_index_or rest turn.now.place nobody).weight) (length table.old) →
+        AreCharged charge (base + (slice_index_or rest turn.now.place nobody).weight) (length table.old)
         charges.now → (v : ℤ) → (group : List Order) → IsSlab group base colours →
-        least_on_with (two_colours largest) charge group rest (set prices j v) j
+        least_on_with (two_colours largest) charge group rest (set prices turn.now.place v)
+        turn.now.place
         ≡ Some (result -ℤ v) }
 {
+    let c = turn.colour;
     match own {
-        Own::Bare => least_front(charges, alone, table.len()),
+        Own::Bare => least_front(charges, turn.alone, table.len()),
         Own::Free(d) => {
             if d == c {
-                return least_front(charges, beside, table.len());
+                return least_front(charges, turn.beside, table.len());
             }
-            rows.least_pair(table, charges, d, runs.run(c), Some(j))
+            rows.least_pair(table, charges, d, runs.run(c), Some(turn.place))
         }
-        Own::One(_) => least_front(charges, alone, table.len()),
+        Own::One(_) => least_front(charges, turn.alone, table.len()),
         Own::Two(d, e) => {
             if d == c {
-                return rows.least_pair(table, charges, e, runs.run(c), Some(j));
+                return rows.least_pair(table, charges, e, runs.run(c), Some(turn.place));
             }
-            rows.least_pair(table, charges, d, runs.run(c), Some(j))
+            rows.least_pair(table, charges, d, runs.run(c), Some(turn.place))
         }
         Own::Full => least_of_none(table, charges),
     }
@@ -258,20 +259,17 @@ pub(crate) fn least_without(
     table: &mut [i64],
     charges: &[i64],
     own: Own,
-    c: usize,
-    j: usize,
-    alone: &[i64],
-    beside: &[i64],
+    turn: &TurnTables,
 ) -> i64
     requires shaped { IsShaped rows.now }
     requires safe { AreRunsSafe rows.now.present.items runs.now }
     requires held { IsHeld rows.now.present.items own }
-    requires colour { holds c rows.now.present.items ≡ true }
-    requires takes { MayTake c own }
-    requires alone { AreNear 20500000000000 alone.now }
-    requires beside { AreNear 40980000000000 beside.now }
-    requires same { length alone.now ≡ rows.now.width }
-    requires wide { length beside.now ≡ rows.now.width }
+    requires colour { holds turn.now.colour rows.now.present.items ≡ true }
+    requires takes { MayTake turn.now.colour own }
+    requires alone { AreNear 20500000000000 turn.now.alone.now }
+    requires beside { AreNear 40980000000000 turn.now.beside.now }
+    requires same { length turn.now.alone.now ≡ rows.now.width }
+    requires wide { length turn.now.beside.now ≡ rows.now.width }
     requires some { 0 < length table.old }
     requires few { length table.old ≤ rows.now.width }
     requires reach { length table.old ≤ length charges.now }
@@ -279,27 +277,30 @@ pub(crate) fn least_without(
     ensures is { (rest : List Order) → (prices : List ℤ) → (name : ℕ → ℕ) → (charge : ℕ → ℕ) →
         (largest base : ℕ) → (colours : List ℕ) → AreRows rest prices name rows.now →
         AreRuns rest prices name rows.now.present.items runs.now →
-        IsTurn rest prices name rows.now.width c j alone.now beside.now →
+        IsTurn rest prices name rows.now.width turn.now.colour turn.now.place turn.now.alone.now
+        turn.now.beside.now →
         IsOwn rest name colours own → IsRoom largest base (length table.old) →
         AreCharged charge base (length table.old) charges.now → (v : ℤ) →
         (group : List Order) → IsSlab group base colours →
-        least_on_without (two_colours largest) charge group rest (set prices j v) j
+        least_on_without (two_colours largest) charge group rest (set prices turn.now.place v)
+        turn.now.place
         ≡ Some result }
 {
+    let c = turn.colour;
     match own {
-        Own::Bare => rows.least_bare(table, charges, c, alone),
+        Own::Bare => rows.least_bare(table, charges, c, turn.alone),
         Own::Free(d) => {
             if d == c {
-                return least_front(charges, beside, table.len());
+                return least_front(charges, turn.beside, table.len());
             }
-            rows.least_apart(table, charges, c, d, alone, runs.run(d))
+            rows.least_apart(table, charges, c, d, turn.alone, runs.run(d))
         }
-        Own::One(_) => least_front(charges, alone, table.len()),
+        Own::One(_) => least_front(charges, turn.alone, table.len()),
         Own::Two(d, e) => {
             if d == c {
-                return rows.least_pair(table, charges, e, runs.run(c), Some(j));
+                return rows.least_pair(table, charges, e, runs.run(c), Some(turn.place));
             }
-            rows.least_pair(table, charges, d, runs.run(c), Some(j))
+            rows.least_pair(table, charges, d, runs.run(c), Some(turn.place))
         }
         Own::Full => least_of_none(table, charges),
     }

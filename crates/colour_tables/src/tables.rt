@@ -2,6 +2,7 @@
 
 ghost use Rattle.std.specs.Prelude.{◌≡◌, ◌↔◌, ℕ, ◌+◌, ◌-ℤ◌, ◌<◌, ◌≤◌, List, [], All, ℤ, length};
 ghost use Rattle.std.specs.Prelude.{set, slice_index_or, true, false, IsTrue, IfOk, Some, None};
+ghost use Rattle.std.specs.Prelude.{IfSome, OnSome, neg_ℤ};
 ghost use Rattle.list_laws.specs.Sets.{holds, different};
 ghost use Rattle.mill_model.specs.Bounds.{least_on_with, least_on_without, least_new_with};
 ghost use Rattle.mill_model.specs.Bounds.{least_new};
@@ -12,7 +13,9 @@ ghost use Rattle.mill_model.specs.declared.order.Order.{Order};
 ghost use Rattle.mill_model.specs.declared.order.TheConstants.{MAX_ORDERS};
 ghost use Rattle.set_minima.specs.Joins.{AreOrders, IsSlab};
 ghost use Rattle.set_minima.specs.Packs.{nobody};
-ghost use Rattle.colour_tables.specs.Leasts.{two_colours};
+ghost use Rattle.set_minima.specs.Packs.{with_price};
+ghost use Rattle.set_minima.specs.Cells.{IsSmall};
+ghost use Rattle.colour_tables.specs.Leasts.{two_colours, slack_limit};
 ghost use Rattle.colour_tables.specs.PricedOrders.{IsKnown, StandsFor, IsTurnOf, MayJoin};
 
 use crate::colour_rows::Rows;
@@ -70,6 +73,7 @@ impl<'a> ColourTables<'a> {
         ensures is { (group : List Order) → StandsFor self.now group slab → result ≡
             least_slack (two_colours self.now.largest) (charge_of self.now.charges) group
             self.now.rest self.now.prices }
+        ensures small { IsSmall slack_limit result }
     {
         let room = self.largest - slab.load + 1;
         let charges = &self.paid[slab.load..];
@@ -85,6 +89,7 @@ impl<'a> ColourTables<'a> {
         ensures is { (price : ℤ) → least_new_with (two_colours self.now.largest)
             (charge_of self.now.charges) self.now.rest (set self.now.prices turn.now.place price)
             turn.now.place ≡ Some (result -ℤ price) }
+        ensures small { IsSmall slack_limit result }
     {
         let rest = self.rest;
         let weight = rest[turn.place].weight as usize;
@@ -95,9 +100,8 @@ impl<'a> ColourTables<'a> {
         )
     }
 
-    /// The least slack of a slab over all sets that may join it and hold the order in its turn,
-    /// whatever its price is.
-    pub fn least_on_with(&self, work: &mut [i64], slab: Slab, turn: &Turn) -> i64
+    // The least slack of a slab over all sets that hold the order in its turn, which may join it.
+    fn least_joined(&self, work: &mut [i64], slab: Slab, turn: &Turn) -> i64
         requires known { IsKnown self.now slab }
         requires turn { IsTurnOf self.now turn.now }
         requires joins { MayJoin self.now turn.now slab }
@@ -106,6 +110,7 @@ impl<'a> ColourTables<'a> {
             least_on_with (two_colours self.now.largest) (charge_of self.now.charges) group
             self.now.rest (set self.now.prices turn.now.place price) turn.now.place
             ≡ Some (result -ℤ price) }
+        ensures small { IsSmall slack_limit result }
     {
         let rest = self.rest;
         let load = slab.load + rest[turn.place].weight as usize;
@@ -116,11 +121,28 @@ impl<'a> ColourTables<'a> {
             &mut work[..room],
             &self.paid[load..],
             slab.own,
-            turn.colour,
-            turn.place,
-            &turn.alone,
-            &turn.beside,
+            &turn.tables(),
         )
+    }
+
+    /// The least slack of a slab over all sets that may join it and hold the order in its turn,
+    /// less no price for it. None where that order can't join the slab.
+    pub fn least_on_with(&self, work: &mut [i64], slab: Slab, turn: &Turn) -> Option<i64>
+        requires known { IsKnown self.now slab }
+        requires turn { IsTurnOf self.now turn.now }
+        requires work { length work.old ≡ self.now.largest + 1 }
+        ensures is { (price : ℤ) → (group : List Order) → StandsFor self.now group slab →
+            least_on_with (two_colours self.now.largest) (charge_of self.now.charges) group
+            self.now.rest (set self.now.prices turn.now.place price) turn.now.place
+            ≡ with_price (neg_ℤ price) result }
+        ensures joins { OnSome result (MayJoin self.now turn.now slab) }
+        ensures small { IfSome result (IsSmall slack_limit) }
+    {
+        if self.can_join(slab, turn) {
+            Some(self.least_joined(work, slab, turn))
+        } else {
+            None
+        }
     }
 
     /// The least slack of a slab over all sets that may join it without the order in its turn,
@@ -134,6 +156,7 @@ impl<'a> ColourTables<'a> {
             least_on_without (two_colours self.now.largest) (charge_of self.now.charges) group
             self.now.rest (set self.now.prices turn.now.place price) turn.now.place
             ≡ Some result }
+        ensures small { IsSmall slack_limit result }
     {
         let room = self.largest - slab.load + 1;
         slabs::least_without(
@@ -142,10 +165,7 @@ impl<'a> ColourTables<'a> {
             &mut work[..room],
             &self.paid[slab.load..],
             slab.own,
-            turn.colour,
-            turn.place,
-            &turn.alone,
-            &turn.beside,
+            &turn.tables(),
         )
     }
 
@@ -155,6 +175,7 @@ impl<'a> ColourTables<'a> {
         requires work { length work.old ≡ self.now.largest + 1 }
         ensures is { result ≡ least_slack (two_colours self.now.largest)
             (charge_of self.now.charges) [] self.now.rest self.now.prices }
+        ensures small { IsSmall slack_limit result }
     {
         slabs::least_anew(&self.rows, &self.runs, work, &self.paid)
     }
@@ -164,6 +185,7 @@ impl<'a> ColourTables<'a> {
         requires work { length work.old ≡ self.now.largest + 1 }
         ensures is { result ≡ least_new (two_colours self.now.largest) (charge_of self.now.charges)
             self.now.rest self.now.prices }
+        ensures small { IfSome result (IsSmall slack_limit) }
     {
         slabs::least_new(&self.rows, &self.runs, work, &self.paid)
     }

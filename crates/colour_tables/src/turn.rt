@@ -15,7 +15,31 @@ pub struct Turn {
     pub(crate) beside: Vec<i64>,
 }
 
+/// The order in its turn, with its tables as they are read.
+#[derive(Clone, Copy, Debug, Drop)]
+pub(crate) struct TurnTables<'t> {
+    pub(crate) place: usize,
+    pub(crate) colour: usize,
+    pub(crate) alone: &'t [i64],
+    pub(crate) beside: &'t [i64],
+}
+
 impl Turn {
+    /// The tables, to read them.
+    pub(crate) fn tables(&self) -> TurnTables<'_>
+        ensures place { result.place ≡ self.now.place }
+        ensures colour { result.colour ≡ self.now.colour }
+        ensures alone { result.alone.now ≡ self.now.alone.items }
+        ensures beside { result.beside.now ≡ self.now.beside.items }
+    {
+        TurnTables {
+            place: self.place,
+            colour: self.colour,
+            alone: &self.alone,
+            beside: &self.beside,
+        }
+    }
+
     /// Room for the tables of one order after another, for a mill with this largest size.
     pub fn new(alloc: Global, largest: u32) -> Result<Turn, OutOfMemory>
         ensures alone { IfOk result (λ turn. length turn.alone.items ≡ largest + 1) }

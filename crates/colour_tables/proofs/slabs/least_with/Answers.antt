@@ -16,7 +16,7 @@ use Rattle.colour_tables.proofs.SlacksFromTables.{lacks-one, only-new}
 use Rattle.colour_tables.proofs.slabs.least_with.Goals as goal
 
 pub least_front-requires-clause-near : goal.least_front-requires-clause-near
-least_front-requires-clause-near c = near-large c.args.alone.now c.requires.alone
+least_front-requires-clause-near c = near-large c.args.turn.now.alone.now c.requires.alone
 
 pub returns-in-Bare : goal.returns-in-Bare
 returns-in-Bare c = record {
@@ -24,13 +24,13 @@ returns-in-Bare c = record {
       let f : SFits w64 c.least_front.result = search rules in
       let o = subst (λ z. IsOwn rest name colours z) c.in-Bare.is own in
       let n = length c.args.table.now in
-      let a = name c.args.c in
+      let a = name c.args.turn.now.colour in
       let x = o.0 in
-      let j = c.args.j in
+      let j = c.args.turn.now.place in
       let now = a ∷ x ∷ [] in
       let apart : eqb a x ≡ false =
       subst (λ z. eqb z x ≡ false) turn.colour (o.2 j turn.here) in
-      let table = alone-table rest prices a j n now (cell c.args.alone.now)
+      let table = alone-table rest prices a j n now (cell c.args.turn.now.alone.now)
       (two-different a x apart) (holds-first a (x ∷ [])) turn.colour (only-new rest a x o.2)
       (λ l b. turn.alone l (omega (arith, c.requires.few))) in
       let top = c.least_front.ensures.top (all_but j) now 2 rest prices charge
@@ -51,8 +51,8 @@ returns-then-d-c c = record {
       let f : SFits w64 c.least_front-then-d-c.result = search rules in
       let o = subst (λ z. IsOwn rest name colours z) c.in-Free.is own in
       let n = length c.args.table.now in
-      let a = name c.args.c in
-      let j = c.args.j in
+      let a = name c.args.turn.now.colour in
+      let j = c.args.turn.now.place in
       let same : colours ≡ a ∷ [] = o ∙ ap (λ z. name z ∷ []) c.if-d-c.true in
       let top = c.least_front-then-d-c.ensures.top (all_but j) (a ∷ []) 2 rest prices charge
       (base + (get_or rest j nobody).weight) charged
@@ -74,19 +74,19 @@ returns-else-d-c c = record {
       let h = subst (λ z. IsHeld c.args.rows.now.present.items z) c.in-Free.is c.requires.held in
       let n = length c.args.table.now in
       let d = c.in-Free.d in
-      let a = name c.args.c in
+      let a = name c.args.turn.now.colour in
       let x = name d in
-      let j = c.args.j in
+      let j = c.args.turn.now.place in
       let cs = c.args.rows.now.present.items in
       let now = a ∷ x ∷ [] in
       let apart : eqb a x ≡ false =
-      ne_eqb a x (λ q. c.if-d-c.false (sym (same-name name c.args.c d cs rows.once
+      ne_eqb a x (λ q. c.if-d-c.false (sym (same-name name c.args.turn.now.colour d cs rows.once
       c.requires.colour h q))) in
       let least = c.least_pair.ensures.is rest prices name charge largest
-      (base + (get_or rest j nobody).weight) c.args.c now rows
-      (subst (λ xs. IsRun rest prices a xs) (sym c.run.ensures.is) (runs c.args.c
+      (base + (get_or rest j nobody).weight) c.args.turn.now.colour now rows
+      (subst (λ xs. IsRun rest prices a xs) (sym c.run.ensures.is) (runs c.args.turn.now.colour
       c.requires.colour))
-      (but-more d c.args.c cs (ne_eqb c.args.c d (λ q. c.if-d-c.false (sym q)))
+      (but-more d c.args.turn.now.colour cs (ne_eqb c.args.turn.now.colour d (λ q. c.if-d-c.false (sym q)))
       c.requires.colour) turn.colour (two-different a x apart)
       (holds-first a (x ∷ [])) (holds-second a x) room charged in
       simp to_z-of_z (slack-with-own rest prices charge largest base n colours now
@@ -102,12 +102,12 @@ returns-in-One c = record {
   is = λ rest prices name charge largest base colours rows runs turn own room charged v group of.
       let f : SFits w64 c.least_front-in-One.result = search rules in
       let o = subst (λ z. IsOwn rest name colours z) c.in-One.is own in
-      let e = subst (λ z. MayTake c.args.c z) c.in-One.is c.requires.takes in
+      let e = subst (λ z. MayTake c.args.turn.now.colour z) c.in-One.is c.requires.takes in
       let n = length c.args.table.now in
-      let a = name c.args.c in
-      let j = c.args.j in
+      let a = name c.args.turn.now.colour in
+      let j = c.args.turn.now.place in
       let has : holds a colours ≡ true = subst (λ z. holds (name z) colours ≡ true) e o.1 in
-      let table = alone-table rest prices a j n colours (cell c.args.alone.now) o.0 has turn.colour
+      let table = alone-table rest prices a j n colours (cell c.args.turn.now.alone.now) o.0 has turn.colour
       (λ i b h. subst (λ z. eqb (colour_at rest i) (name z) ≡ true) e (o.2 i b h))
       (λ l b. turn.alone l (omega (arith, c.requires.few))) in
       let top = c.least_front-in-One.ensures.top (all_but j) colours 2 rest prices charge
@@ -134,17 +134,17 @@ returns-then-d-c-2 c = record {
       let n = length c.args.table.now in
       let d = c.in-Two.d in
       let e = c.in-Two.e in
-      let a = name c.args.c in
-      let j = c.args.j in
+      let a = name c.args.turn.now.colour in
+      let j = c.args.turn.now.place in
       let cs = c.args.rows.now.present.items in
       let has : holds a colours ≡ true =
       subst (λ z. holds (name z) colours ≡ true) c.if-d-c-2.true o.1 in
-      let other : holds c.args.c (but e cs) ≡ true =
+      let other : holds c.args.turn.now.colour (but e cs) ≡ true =
       subst (λ z. holds z (but e cs) ≡ true) c.if-d-c-2.true (row-without d e cs h.1 h.0) in
       let least = c.least_pair-then-d-c-2.ensures.is rest prices name charge largest
-      (base + (get_or rest j nobody).weight) c.args.c colours rows
+      (base + (get_or rest j nobody).weight) c.args.turn.now.colour colours rows
       (subst (λ xs. IsRun rest prices a xs) (sym c.run-then-d-c-2.ensures.is)
-      (runs c.args.c c.requires.colour)) other turn.colour o.0 has o.2 room charged in
+      (runs c.args.turn.now.colour c.requires.colour)) other turn.colour o.0 has o.2 room charged in
       simp to_z-of_z (slack-with-own rest prices charge largest base n colours colours
       c.least_pair-then-d-c-2.result j v turn.here rows.same room
       (subst (λ z. with_colour z colours ≡ colours) (sym turn.colour) (with-old a colours has))
@@ -157,21 +157,21 @@ returns-else-d-c-2 c = record {
       let f : SFits w64 c.least_pair-in-Two.result = search rules in
       let o = subst (λ z. IsOwn rest name colours z) c.in-Two.is own in
       let h = subst (λ z. IsHeld c.args.rows.now.present.items z) c.in-Two.is c.requires.held in
-      let t = subst (λ z. MayTake c.args.c z) c.in-Two.is c.requires.takes in
+      let t = subst (λ z. MayTake c.args.turn.now.colour z) c.in-Two.is c.requires.takes in
       let n = length c.args.table.now in
       let d = c.in-Two.d in
       let e = c.in-Two.e in
-      let a = name c.args.c in
-      let j = c.args.j in
+      let a = name c.args.turn.now.colour in
+      let j = c.args.turn.now.place in
       let cs = c.args.rows.now.present.items in
-      let s : e ≡ c.args.c = elim t [ inl q ↦ absurd (c.if-d-c-2.false q) | inr q ↦ q ] in
+      let s : e ≡ c.args.turn.now.colour = elim t [ inl q ↦ absurd (c.if-d-c-2.false q) | inr q ↦ q ] in
       let has : holds a colours ≡ true = subst (λ z. holds (name z) colours ≡ true) s o.2 in
-      let other : holds c.args.c (but d cs) ≡ true =
+      let other : holds c.args.turn.now.colour (but d cs) ≡ true =
       subst (λ z. holds z (but d cs) ≡ true) s h.1 in
       let least = c.least_pair-in-Two.ensures.is rest prices name charge largest
-      (base + (get_or rest j nobody).weight) c.args.c colours rows
+      (base + (get_or rest j nobody).weight) c.args.turn.now.colour colours rows
       (subst (λ xs. IsRun rest prices a xs) (sym c.run-in-Two.ensures.is)
-      (runs c.args.c c.requires.colour)) other turn.colour o.0 has o.1 room charged in
+      (runs c.args.turn.now.colour c.requires.colour)) other turn.colour o.0 has o.1 room charged in
       simp to_z-of_z (slack-with-own rest prices charge largest base n colours colours
       c.least_pair-in-Two.result j v turn.here rows.same room
       (subst (λ z. with_colour z colours ≡ colours) (sym turn.colour) (with-old a colours has))
@@ -180,4 +180,4 @@ returns-else-d-c-2 c = record {
 
 pub returns-in-Full : goal.returns-in-Full
 returns-in-Full c =
-    absurd (subst (λ z. MayTake c.args.c z) c.in-Full.is c.requires.takes)
+    absurd (subst (λ z. MayTake c.args.turn.now.colour z) c.in-Full.is c.requires.takes)

@@ -19,7 +19,7 @@ returns-in-Bare c = record {
       name charge largest base colours rows runs turn own room charged v group of.
       let f : SFits w64 c.least_bare.result = search rules in
       let o = subst (λ z. IsOwn rest name colours z) c.in-Bare.is own in
-      let j = c.args.j in
+      let j = c.args.turn.now.place in
       let least = c.least_bare.ensures.is rest prices name charge largest base j o.0 rows
       turn.colour o.2 (λ l b. turn.alone l (omega (arith, c.requires.few))) room charged in
       simp to_z-of_z (slack-without-priced rest prices charge largest base (o.0 ∷ [])
@@ -34,8 +34,8 @@ returns-then-d-c c = record {
       let f : SFits w64 c.least_front.result = search rules in
       let o = subst (λ z. IsOwn rest name colours z) c.in-Free.is own in
       let n = length c.args.table.now in
-      let a = name c.args.c in
-      let j = c.args.j in
+      let a = name c.args.turn.now.colour in
+      let j = c.args.turn.now.place in
       let same : colours ≡ a ∷ [] = o ∙ ap (λ z. name z ∷ []) c.if-d-c.true in
       let top = c.least_front.ensures.top (all_but j) (a ∷ []) 2 rest prices charge base charged
       (λ l b. turn.mates l (omega (arith, c.requires.few))) in
@@ -48,8 +48,8 @@ returns-then-d-c c = record {
 pub least_apart-requires-clause-other : goal.least_apart-requires-clause-other
 least_apart-requires-clause-other c =
     let h = subst (λ z. IsHeld c.args.rows.now.present.items z) c.in-Free.is c.requires.held in
-    but-more c.args.c c.in-Free.d c.args.rows.now.present.items
-    (ne_eqb c.in-Free.d c.args.c (λ q. c.if-d-c.false q)) h
+    but-more c.args.turn.now.colour c.in-Free.d c.args.rows.now.present.items
+    (ne_eqb c.in-Free.d c.args.turn.now.colour (λ q. c.if-d-c.false q)) h
 
 pub returns-else-d-c : goal.returns-else-d-c
 returns-else-d-c c = record {
@@ -59,7 +59,7 @@ returns-else-d-c c = record {
       let o = subst (λ z. IsOwn rest name colours z) c.in-Free.is own in
       let h = subst (λ z. IsHeld c.args.rows.now.present.items z) c.in-Free.is c.requires.held in
       let d = c.in-Free.d in
-      let j = c.args.j in
+      let j = c.args.turn.now.place in
       let least = c.least_apart.ensures.is rest prices name charge largest base j rows
       (subst (λ xs. IsRun rest prices (name d) xs) (sym c.run.ensures.is) (runs d h))
       turn.here turn.colour (λ l b. turn.alone l (omega (arith, c.requires.few))) room charged
@@ -75,12 +75,12 @@ returns-in-One c = record {
       name charge largest base colours rows runs turn own room charged v group of.
       let f : SFits w64 c.least_front-in-One.result = search rules in
       let o = subst (λ z. IsOwn rest name colours z) c.in-One.is own in
-      let e = subst (λ z. MayTake c.args.c z) c.in-One.is c.requires.takes in
+      let e = subst (λ z. MayTake c.args.turn.now.colour z) c.in-One.is c.requires.takes in
       let n = length c.args.table.now in
-      let a = name c.args.c in
-      let j = c.args.j in
+      let a = name c.args.turn.now.colour in
+      let j = c.args.turn.now.place in
       let has : holds a colours ≡ true = subst (λ z. holds (name z) colours ≡ true) e o.1 in
-      let table = alone-table rest prices a j n colours (cell c.args.alone.now) o.0 has turn.colour
+      let table = alone-table rest prices a j n colours (cell c.args.turn.now.alone.now) o.0 has turn.colour
       (λ i b h. subst (λ z. eqb (colour_at rest i) (name z) ≡ true) e (o.2 i b h))
       (λ l b. turn.alone l (omega (arith, c.requires.few))) in
       let top = c.least_front-in-One.ensures.top (all_but j) colours 2 rest prices charge
@@ -105,16 +105,16 @@ returns-then-d-c-2 c = record {
       let h = subst (λ z. IsHeld c.args.rows.now.present.items z) c.in-Two.is c.requires.held in
       let d = c.in-Two.d in
       let e = c.in-Two.e in
-      let a = name c.args.c in
-      let j = c.args.j in
+      let a = name c.args.turn.now.colour in
+      let j = c.args.turn.now.place in
       let cs = c.args.rows.now.present.items in
       let has : holds a colours ≡ true =
       subst (λ z. holds (name z) colours ≡ true) c.if-d-c-2.true o.1 in
-      let other : holds c.args.c (but e cs) ≡ true =
+      let other : holds c.args.turn.now.colour (but e cs) ≡ true =
       subst (λ z. holds z (but e cs) ≡ true) c.if-d-c-2.true (row-without d e cs h.1 h.0) in
-      let least = c.least_pair.ensures.is rest prices name charge largest base c.args.c colours
+      let least = c.least_pair.ensures.is rest prices name charge largest base c.args.turn.now.colour colours
       rows (subst (λ xs. IsRun rest prices a xs) (sym c.run-then-d-c-2.ensures.is)
-      (runs c.args.c c.requires.colour)) other turn.colour o.0 has o.2 room charged in
+      (runs c.args.turn.now.colour c.requires.colour)) other turn.colour o.0 has o.2 room charged in
       simp to_z-of_z (slack-without-priced rest prices charge largest base colours
       c.least_pair.result j v room.fits (omega (arith, o.0)) least group of);
 }
@@ -126,23 +126,23 @@ returns-else-d-c-2 c = record {
       let f : SFits w64 c.least_pair-in-Two.result = search rules in
       let o = subst (λ z. IsOwn rest name colours z) c.in-Two.is own in
       let h = subst (λ z. IsHeld c.args.rows.now.present.items z) c.in-Two.is c.requires.held in
-      let t = subst (λ z. MayTake c.args.c z) c.in-Two.is c.requires.takes in
+      let t = subst (λ z. MayTake c.args.turn.now.colour z) c.in-Two.is c.requires.takes in
       let d = c.in-Two.d in
       let e = c.in-Two.e in
-      let a = name c.args.c in
-      let j = c.args.j in
+      let a = name c.args.turn.now.colour in
+      let j = c.args.turn.now.place in
       let cs = c.args.rows.now.present.items in
-      let s : e ≡ c.args.c = elim t [ inl q ↦ absurd (c.if-d-c-2.false q) | inr q ↦ q ] in
+      let s : e ≡ c.args.turn.now.colour = elim t [ inl q ↦ absurd (c.if-d-c-2.false q) | inr q ↦ q ] in
       let has : holds a colours ≡ true = subst (λ z. holds (name z) colours ≡ true) s o.2 in
-      let other : holds c.args.c (but d cs) ≡ true =
+      let other : holds c.args.turn.now.colour (but d cs) ≡ true =
       subst (λ z. holds z (but d cs) ≡ true) s h.1 in
-      let least = c.least_pair-in-Two.ensures.is rest prices name charge largest base c.args.c
+      let least = c.least_pair-in-Two.ensures.is rest prices name charge largest base c.args.turn.now.colour
       colours rows (subst (λ xs. IsRun rest prices a xs) (sym c.run-in-Two.ensures.is)
-      (runs c.args.c c.requires.colour)) other turn.colour o.0 has o.1 room charged in
+      (runs c.args.turn.now.colour c.requires.colour)) other turn.colour o.0 has o.1 room charged in
       simp to_z-of_z (slack-without-priced rest prices charge largest base colours
       c.least_pair-in-Two.result j v room.fits (omega (arith, o.0)) least group of);
 }
 
 pub returns-in-Full : goal.returns-in-Full
 returns-in-Full c =
-    absurd (subst (λ z. MayTake c.args.c z) c.in-Full.is c.requires.takes)
+    absurd (subst (λ z. MayTake c.args.turn.now.colour z) c.in-Full.is c.requires.takes)

@@ -2,15 +2,16 @@
 use Rattle.std.proofs.Common.{ℕ, ◌+◌, ◌<◌, ◌≤◌, ◌≡◌, ◌⊎◌, Bool, true, false, ◌||◌, List, map}
 use Rattle.std.proofs.Common.{length}
 use Rattle.std.proofs.Common.{get_or, set, eqb, eqb-true, eq-eqb, ne_eqb, leb, ltb, leb-true, ℤ}
-use Rattle.std.proofs.Common.{None}
+use Rattle.std.proofs.Common.{None, []}
 use Rattle.std.proofs.Common.{length-set, refl, sym, ap, ◌∙◌, subst, arith, inl, inr}
 use Rattle.list_laws.specs.Sets.{holds, different}
-use Rattle.mill_model.specs.Bounds.{least_on_with}
+use Rattle.mill_model.specs.Bounds.{least_new_with, least_on_with}
 use Rattle.mill_model.specs.declared.order.Order.{Order}
 use Rattle.list_laws.proofs.Tests.{either, clash}
 use Rattle.set_minima.specs.Packs.{colour_at, nobody}
 use Rattle.set_minima.specs.Joins.{IsSlab}
 use Rattle.set_minima.proofs.Holding.{with-none}
+use Rattle.set_minima.proofs.Least.{new-slab}
 use Rattle.colour_tables.specs.Leasts.{two_colours}
 use Rattle.colour_tables.specs.Threes.{but, once}
 use Rattle.colour_tables.specs.Owned.{IsHeld, IsOwn, MayTake}
@@ -71,3 +72,17 @@ module _ (rest : List Order) (name : ℕ → ℕ) (present : List ℕ)
     where
       full : (n : ℕ) → n ≡ 2 → ltb n 2 ≡ false
       full n e = rw e refl
+
+-- an order that is too heavy is on no new slab
+pub cannot-fit : (charge : ℕ → ℕ) (largest : ℕ) (rest : List Order) (prices : List ℤ) (j : ℕ)
+    (v : ℤ) → j < length rest → length prices ≡ length rest →
+    largest < (get_or rest j nobody).weight →
+    least_new_with (two_colours largest) charge rest (set prices j v) j ≡ None
+cannot-fit charge largest rest prices j v here same heavy =
+    with-none largest 2 charge rest (set prices j v) [] 0 [] (new-slab largest 2 charge rest prices)
+    j here (length-set prices j v ∙ same) refl
+    (elim (either (leb (0 + (get_or rest j nobody).weight) largest)) [
+      | inr refused ↦ rw refused refl
+      | inl light ↦ absurd (let l = leb-true (0 + (get_or rest j nobody).weight) largest light in
+          omega (arith, l, heavy))
+    ])

@@ -28,3 +28,4 @@ pub mod TurnTables
 pub mod TablesMade
 pub mod CannotJoin
 pub mod SlacksWithin
+pub mod GroupsKnown

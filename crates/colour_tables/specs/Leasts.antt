@@ -30,13 +30,6 @@ pub record IsRoom (largest base n : ℕ) : Type 0 where
 abbrev pub two_colours : ℕ → Mill
 two_colours largest = record { largest = largest; most_colours = 2 }
 
--- a set with no load, or one that may join a slab of one of some colours
-abbrev pub JoinsSome : List Order → (ℕ → ℕ) → ℕ → List ℕ → List Bool → Type 0
-JoinsSome rest name largest cs marks =
-    Packed all_places [] 2 rest 0 1 marks
-    ⊎ ((c : ℕ) × (holds c cs ≡ true)
-    × Joins all_places 0 largest 0 (name c ∷ []) 2 rest marks)
-
 -- a set of some load that may join a slab of one of some colours
 abbrev pub MakesSome : List Order → (ℕ → ℕ) → ℕ → List ℕ → List Bool → Type 0
 MakesSome rest name largest cs marks =

@@ -7,3 +7,4 @@ pub mod Leasts
 pub mod Owned
 pub mod Stretches
 pub mod PricedOrders
+pub mod Grouped

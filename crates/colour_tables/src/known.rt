@@ -15,7 +15,7 @@ ghost use Rattle.colour_tables.specs.PricedOrders.{colour_of};
 
 use crate::slab::{Own, Slab};
 use crate::slabs;
-use crate::tables::ColourTables;
+use crate::tables::OrderTables;
 use crate::turn::Turn;
 
 /// Where a colour stands among some colours.
@@ -53,7 +53,7 @@ fn may_join(room: usize, weight: usize, own: Own, c: usize) -> bool
     weight <= room && takes(own, c)
 }
 
-impl<'a> ColourTables<'a> {
+impl<'a> OrderTables<'a> {
     /// The colours of a slab, by their numbers.
     fn own(&self, colours: &[u16]) -> Own
         requires some { 0 < length colours.now }
@@ -78,7 +78,7 @@ impl<'a> ColourTables<'a> {
     }
 
     /// A slab with orders of one colour or two on it, as the tables know it.
-    pub fn slab(&self, load: u32, colours: &[u16]) -> Slab
+    pub(crate) fn slab(&self, load: u32, colours: &[u16]) -> Slab
         requires fits { load ≤ self.now.largest }
         requires some { 0 < length colours.now }
         requires few { length colours.now ≤ 2 }
@@ -109,7 +109,7 @@ impl<'a> ColourTables<'a> {
     }
 
     /// Begins the turn of an order.
-    pub fn begin_turn(&self, turn: &mut Turn, place: usize)
+    pub(crate) fn begin_turn(&self, turn: &mut Turn, place: usize)
         requires here { place < length self.now.rest }
         requires alone { length turn.old.alone.items ≡ self.now.largest + 1 }
         requires beside { length turn.old.beside.items ≡ self.now.largest + 1 }

@@ -6,6 +6,7 @@ mod by_colour;
 mod colour_rows;
 mod fill;
 mod gain;
+mod grouped;
 mod items;
 mod known;
 mod slab;
@@ -16,6 +17,4 @@ mod tables_made;
 mod tops;
 mod turn;
 
-pub use slab::Slab;
-pub use tables::ColourTables;
-pub use turn::Turn;
+pub use grouped::ColourTables;

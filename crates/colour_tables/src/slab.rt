@@ -17,7 +17,7 @@ pub(crate) enum Own {
 
 /// A slab with some orders on it, as the tables of the orders to come know it.
 #[derive(Clone, Copy, Debug, Drop)]
-pub struct Slab {
+pub(crate) struct Slab {
     pub(crate) load: usize,
     pub(crate) own: Own,
 }

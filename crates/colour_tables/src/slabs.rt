@@ -306,31 +306,6 @@ pub(crate) fn least_without(
     }
 }
 
-/// The least slack of a new slab over all sets, the empty one included: prices are valid where it
-/// is not below zero.
-pub(crate) fn least_anew(rows: &Rows, runs: &Runs, table: &mut [i64], charges: &[i64]) -> i64
-    requires shaped { IsShaped rows.now }
-    requires safe { AreRunsSafe rows.now.present.items runs.now }
-    requires some { 0 < length table.old }
-    requires few { length table.old ≤ rows.now.width }
-    requires reach { length table.old ≤ length charges.now }
-    requires charges { AreSmallAll charges.now }
-    ensures is { (rest : List Order) → (prices : List ℤ) → (name : ℕ → ℕ) → (charge : ℕ → ℕ) →
-        (largest : ℕ) → AreRows rest prices name rows.now →
-        AreRuns rest prices name rows.now.present.items runs.now →
-        IsRoom largest 0 (length table.old) →
-        AreCharged charge 0 (length table.old) charges.now →
-        result ≡ least_slack (two_colours largest) charge [] rest prices }
-{
-    let mut least = charges[0];
-    for t in 0..rows.present.len() {
-        let c = rows.present[t];
-        let beside = rows.least_beside(table, charges, c, runs.run(c), None);
-        least = least.min(beside);
-    }
-    least
-}
-
 /// The least slack of a new slab over all sets with something in them.
 pub(crate) fn least_new(rows: &Rows, runs: &Runs, table: &mut [i64], charges: &[i64]) -> Option<i64>
     requires shaped { IsShaped rows.now }

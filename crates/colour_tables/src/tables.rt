@@ -2,7 +2,7 @@
 
 ghost use Rattle.std.specs.Prelude.{◌≡◌, ◌↔◌, ℕ, ◌+◌, ◌-ℤ◌, ◌<◌, ◌≤◌, List, [], All, ℤ, length};
 ghost use Rattle.std.specs.Prelude.{set, slice_index_or, true, false, IsTrue, IfOk, Some, None};
-ghost use Rattle.std.specs.Prelude.{IfSome, OnSome, neg_ℤ};
+ghost use Rattle.std.specs.Prelude.{IfSome, IfNone, neg_ℤ};
 ghost use Rattle.list_laws.specs.Sets.{holds, different};
 ghost use Rattle.mill_model.specs.Bounds.{least_on_with, least_on_without, least_new_with};
 ghost use Rattle.mill_model.specs.Bounds.{least_new};
@@ -26,11 +26,11 @@ use crate::turn::Turn;
 use mill_model::{Charges, Order};
 use std::marker::Model;
 
-/// Tables of the orders to come, for a mill whose slabs carry at most two colours: by load, the
+/// Tables of orders with a price for each, for slabs that carry at most two colours: by load, the
 /// greatest prices of the sets of each colour alone, and what is left of them without one colour or
-/// two. Prices are in sixtieths of a loss unit.
+/// two.
 #[derive(Drop)]
-pub struct ColourTables<'a> {
+pub(crate) struct OrderTables<'a> {
     pub(crate) rest: &'a [Order],
     pub(crate) charges: &'a Charges,
     pub(crate) largest: usize,
@@ -41,7 +41,7 @@ pub struct ColourTables<'a> {
     pub(crate) rows: Rows,
 }
 
-impl<'a> Model for ColourTables<'a> {
+impl<'a> Model for OrderTables<'a> {
     ghost use Rattle.colour_tables.specs.PricedOrders.{PricedOrders, AreTables};
 
     ghost Value = { PricedOrders };
@@ -63,11 +63,11 @@ impl<'a> Model for ColourTables<'a> {
     }) t.runs t.rows t.paid.items };
 }
 
-impl<'a> ColourTables<'a> {
+impl<'a> OrderTables<'a> {
     /// The least slack of a slab over all sets that may join it, the empty one included.
     ///
     /// `work` is a place to work in, with one number for each load.
-    pub fn least_on(&self, work: &mut [i64], slab: Slab) -> i64
+    pub(crate) fn least_on(&self, work: &mut [i64], slab: Slab) -> i64
         requires known { IsKnown self.now slab }
         requires work { length work.old ≡ self.now.largest + 1 }
         ensures is { (group : List Order) → StandsFor self.now group slab → result ≡
@@ -80,9 +80,8 @@ impl<'a> ColourTables<'a> {
         slabs::least_on(&self.rows, &self.runs, &mut work[..room], charges, slab.own)
     }
 
-    /// The least slack of a new slab over all sets that hold the order in its turn, whatever its
-    /// price is.
-    pub fn least_new_with(&self, turn: &Turn) -> i64
+    // The least slack of a new slab over all sets that hold the order in its turn, which fits one.
+    fn least_fitting(&self, turn: &Turn) -> i64
         requires turn { IsTurnOf self.now turn.now }
         requires fits { (slice_index_or self.now.rest turn.now.place nobody).weight
             ≤ self.now.largest }
@@ -98,6 +97,23 @@ impl<'a> ColourTables<'a> {
             &turn.beside,
             self.largest - weight + 1,
         )
+    }
+
+    /// The least slack of a new slab over all sets that hold the order in its turn, less no price
+    /// for it. None where that order fits no slab.
+    pub(crate) fn least_new_with(&self, turn: &Turn) -> Option<i64>
+        requires turn { IsTurnOf self.now turn.now }
+        ensures is { (price : ℤ) → least_new_with (two_colours self.now.largest)
+            (charge_of self.now.charges) self.now.rest (set self.now.prices turn.now.place price)
+            turn.now.place ≡ with_price (neg_ℤ price) result }
+        ensures small { IfSome result (IsSmall slack_limit) }
+    {
+        let rest = self.rest;
+        if rest[turn.place].weight as usize <= self.largest {
+            Some(self.least_fitting(turn))
+        } else {
+            None
+        }
     }
 
     // The least slack of a slab over all sets that hold the order in its turn, which may join it.
@@ -127,7 +143,7 @@ impl<'a> ColourTables<'a> {
 
     /// The least slack of a slab over all sets that may join it and hold the order in its turn,
     /// less no price for it. None where that order can't join the slab.
-    pub fn least_on_with(&self, work: &mut [i64], slab: Slab, turn: &Turn) -> Option<i64>
+    pub(crate) fn least_on_with(&self, work: &mut [i64], slab: Slab, turn: &Turn) -> Option<i64>
         requires known { IsKnown self.now slab }
         requires turn { IsTurnOf self.now turn.now }
         requires work { length work.old ≡ self.now.largest + 1 }
@@ -135,7 +151,6 @@ impl<'a> ColourTables<'a> {
             least_on_with (two_colours self.now.largest) (charge_of self.now.charges) group
             self.now.rest (set self.now.prices turn.now.place price) turn.now.place
             ≡ with_price (neg_ℤ price) result }
-        ensures joins { OnSome result (MayJoin self.now turn.now slab) }
         ensures small { IfSome result (IsSmall slack_limit) }
     {
         if self.can_join(slab, turn) {
@@ -145,9 +160,8 @@ impl<'a> ColourTables<'a> {
         }
     }
 
-    /// The least slack of a slab over all sets that may join it without the order in its turn,
-    /// which may join too.
-    pub fn least_on_without(&self, work: &mut [i64], slab: Slab, turn: &Turn) -> i64
+    // The least slack of a slab over all sets without the order in its turn, which may join it.
+    fn least_parted(&self, work: &mut [i64], slab: Slab, turn: &Turn) -> i64
         requires known { IsKnown self.now slab }
         requires turn { IsTurnOf self.now turn.now }
         requires joins { MayJoin self.now turn.now slab }
@@ -169,19 +183,36 @@ impl<'a> ColourTables<'a> {
         )
     }
 
-    /// The least slack of a new slab over all sets, the empty one included: prices are valid
-    /// exactly where it isn't below zero.
-    pub fn least_anew(&self, work: &mut [i64]) -> i64
+    /// The least slack of a slab over all sets that may join it without the order in its turn, where
+    /// that order can join the slab; else None.
+    pub(crate) fn least_on_without(
+        &self,
+        work: &mut [i64],
+        slab: Slab,
+        turn: &Turn,
+    ) -> Option<i64>
+        requires known { IsKnown self.now slab }
+        requires turn { IsTurnOf self.now turn.now }
         requires work { length work.old ≡ self.now.largest + 1 }
-        ensures is { result ≡ least_slack (two_colours self.now.largest)
-            (charge_of self.now.charges) [] self.now.rest self.now.prices }
-        ensures small { IsSmall slack_limit result }
+        ensures some { (price : ℤ) → (group : List Order) → StandsFor self.now group slab →
+            IfSome result (λ least. least_on_without (two_colours self.now.largest)
+            (charge_of self.now.charges) group self.now.rest
+            (set self.now.prices turn.now.place price) turn.now.place ≡ Some least) }
+        ensures none { (price : ℤ) → (group : List Order) → StandsFor self.now group slab →
+            IfNone result (least_on_with (two_colours self.now.largest)
+            (charge_of self.now.charges) group self.now.rest
+            (set self.now.prices turn.now.place price) turn.now.place ≡ None) }
+        ensures small { IfSome result (IsSmall slack_limit) }
     {
-        slabs::least_anew(&self.rows, &self.runs, work, &self.paid)
+        if self.can_join(slab, turn) {
+            Some(self.least_parted(work, slab, turn))
+        } else {
+            None
+        }
     }
 
     /// The least slack of a new slab over all sets with something in them.
-    pub fn least_new(&self, work: &mut [i64]) -> Option<i64>
+    pub(crate) fn least_new(&self, work: &mut [i64]) -> Option<i64>
         requires work { length work.old ≡ self.now.largest + 1 }
         ensures is { result ≡ least_new (two_colours self.now.largest) (charge_of self.now.charges)
             self.now.rest self.now.prices }
@@ -191,7 +222,7 @@ impl<'a> ColourTables<'a> {
     }
 
     /// Gives the order in its turn a price. The turn is over then.
-    pub fn set_price(&mut self, turn: &mut Turn, price: i64)
+    pub(crate) fn set_price(&mut self, turn: &mut Turn, price: i64)
         requires turn { IsTurnOf self.old turn.old }
         requires price { IsPrice price }
         ensures prices { self.new.prices ≡ set self.old.prices turn.old.place price }

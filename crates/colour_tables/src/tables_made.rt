@@ -16,7 +16,7 @@ ghost use Rattle.colour_tables.specs.Threes.{once};
 use crate::by_colour::{priced_items, sort_by_colour, stretch_colours, stretches};
 use crate::colour_rows::Rows;
 use crate::slabs::Runs;
-use crate::tables::ColourTables;
+use crate::tables::OrderTables;
 use mill_model::{Charges, Order, OutOfMemory};
 use std::alloc::Global;
 
@@ -66,16 +66,16 @@ fn paid_charges(alloc: Global, charges: &Charges, largest: u32) -> Result<Vec<i6
     Ok(paid)
 }
 
-impl<'a> ColourTables<'a> {
+impl<'a> OrderTables<'a> {
     /// The tables of some orders with a price for each, for the slabs of a mill with a largest size
     /// whose loads are charged as `charges` says.
-    pub fn new(
+    pub(crate) fn new(
         alloc: Global,
         rest: &'a [Order],
         prices: &[i64],
         charges: &'a Charges,
         largest: u32,
-    ) -> Result<ColourTables<'a>, OutOfMemory>
+    ) -> Result<OrderTables<'a>, OutOfMemory>
         requires few { length rest.now ≤ MAX_ORDERS }
         requires orders { AreOrders rest.now }
         requires same { length prices.now ≡ length rest.now }
@@ -97,7 +97,7 @@ impl<'a> ColourTables<'a> {
         let runs = Runs { items, ends };
         let mut rows = empty_rows(alloc, runs.ends.len(), largest as usize + 1)?;
         rows.fill(&runs);
-        Ok(ColourTables {
+        Ok(OrderTables {
             rest,
             charges,
             largest: largest as usize,

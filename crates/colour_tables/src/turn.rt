@@ -8,7 +8,7 @@ use std::alloc::Global;
 /// An order in its turn: by load, the greatest value of the sets of its colour without it, and of
 /// its colour and at most one other without it.
 #[derive(Drop)]
-pub struct Turn {
+pub(crate) struct Turn {
     pub(crate) place: usize,
     pub(crate) colour: usize,
     pub(crate) alone: Vec<i64>,
@@ -41,7 +41,7 @@ impl Turn {
     }
 
     /// Room for the tables of one order after another, for a mill with this largest size.
-    pub fn new(alloc: Global, largest: u32) -> Result<Turn, OutOfMemory>
+    pub(crate) fn new(alloc: Global, largest: u32) -> Result<Turn, OutOfMemory>
         ensures alone { IfOk result (λ turn. length turn.alone.items ≡ largest + 1) }
         ensures beside { IfOk result (λ turn. length turn.beside.items ≡ largest + 1) }
     {

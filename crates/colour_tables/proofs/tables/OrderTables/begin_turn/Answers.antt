@@ -10,7 +10,7 @@ use Rattle.set_minima.specs.Cells.{AreNear}
 use Rattle.colour_tables.specs.PricedOrders.{PricedOrders}
 use Rattle.colour_tables.proofs.KnownColours.{absent}
 use Rattle.colour_tables.proofs.TurnTables.{turn-from}
-use Rattle.colour_tables.proofs.tables.ColourTables.begin_turn.Goals as goal
+use Rattle.colour_tables.proofs.tables.OrderTables.begin_turn.Goals as goal
 
 pub begin_turn-requires-clause-colour : goal.begin_turn-requires-clause-colour
 begin_turn-requires-clause-colour c =

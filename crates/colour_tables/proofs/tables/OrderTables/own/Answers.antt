@@ -8,7 +8,7 @@ use Rattle.colour_tables.specs.PricedOrders.{PricedOrders, colour_of}
 use Rattle.colour_tables.specs.declared.slab.Own.TheVariants.{Bare, One, Two, Full}
 use Rattle.colour_tables.proofs.KnownColours.{own-bare, own-first, own-second, own-full, held-two}
 use Rattle.colour_tables.proofs.KnownColours.{two-long}
-use Rattle.colour_tables.proofs.tables.ColourTables.own.Goals as goal
+use Rattle.colour_tables.proofs.tables.OrderTables.own.Goals as goal
 
 pub returns-in-Some-clause-held : goal.returns-in-Some-clause-held
 returns-in-Some-clause-held c =

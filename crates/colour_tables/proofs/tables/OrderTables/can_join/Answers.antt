@@ -8,7 +8,7 @@ use Rattle.colour_tables.specs.Leasts.{two_colours}
 use Rattle.colour_tables.specs.Threes.{once}
 use Rattle.colour_tables.specs.PricedOrders.{PricedOrders, IsKnown, IsTurnOf, MayJoin, StandsFor}
 use Rattle.colour_tables.proofs.CannotJoin.{cannot-join}
-use Rattle.colour_tables.proofs.tables.ColourTables.can_join.Goals as goal
+use Rattle.colour_tables.proofs.tables.OrderTables.can_join.Goals as goal
 
 pub returns-clause-joins : goal.returns-clause-joins
 returns-clause-joins c q =

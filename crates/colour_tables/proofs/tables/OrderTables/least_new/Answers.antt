@@ -10,7 +10,7 @@ use Rattle.colour_tables.specs.Leasts.{slack_limit}
 use Rattle.colour_tables.specs.Leasts.{two_colours}
 use Rattle.std.specs.List.{list_any}
 use Rattle.colour_tables.proofs.SlacksWithin.{least_of-within}
-use Rattle.colour_tables.proofs.tables.ColourTables.least_new.Goals as goal
+use Rattle.colour_tables.proofs.tables.OrderTables.least_new.Goals as goal
 
 pub returns-clause-is : goal.returns-clause-is
 returns-clause-is c =

@@ -14,7 +14,7 @@ use Rattle.colour_tables.specs.Leasts.{slack_limit}
 use Rattle.colour_tables.specs.Leasts.{two_colours}
 use Rattle.mill_model.specs.Bounds.{in_set}
 use Rattle.colour_tables.proofs.SlacksWithin.{small-from}
-use Rattle.colour_tables.proofs.tables.ColourTables.least_new_with.Goals as goal
+use Rattle.colour_tables.proofs.tables.OrderTables.least_fitting.Goals as goal
 
 pub returns-clause-is : goal.returns-clause-is
 returns-clause-is c =

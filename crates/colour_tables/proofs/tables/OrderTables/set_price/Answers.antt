@@ -11,7 +11,7 @@ use Rattle.colour_tables.specs.Rowed.{AreRows}
 use Rattle.colour_tables.specs.PricedOrders.{PricedOrders, IsTurnOf}
 use Rattle.colour_tables.proofs.PricesSet.{small-set}
 use Rattle.colour_tables.proofs.TurnTables.{front-of}
-use Rattle.colour_tables.proofs.tables.ColourTables.set_price.Goals as goal
+use Rattle.colour_tables.proofs.tables.OrderTables.set_price.Goals as goal
 
 pub invariant_of-self : goal.invariant_of-self
 invariant_of-self c =

@@ -9,7 +9,7 @@ use Rattle.colour_tables.specs.Entries.{AreSmallAll}
 use Rattle.colour_tables.specs.Leasts.{slack_limit}
 use Rattle.colour_tables.specs.Leasts.{two_colours}
 use Rattle.colour_tables.proofs.SlacksWithin.{known-stands, least_slack-within, stand-in}
-use Rattle.colour_tables.proofs.tables.ColourTables.least_on.Goals as goal
+use Rattle.colour_tables.proofs.tables.OrderTables.least_on.Goals as goal
 
 pub returns-clause-is : goal.returns-clause-is
 returns-clause-is c =

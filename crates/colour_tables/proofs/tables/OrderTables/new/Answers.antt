@@ -10,7 +10,7 @@ use Rattle.colour_tables.specs.declared.slabs.Runs.{Runs}
 use Rattle.colour_tables.proofs.TablesMade.{prices-small, made-safe, made-runs, made-names}
 use Rattle.colour_tables.proofs.TablesMade.{made-once, made-all, made-present}
 use Rattle.colour_tables.proofs.StretchesFound.{few-stretches}
-use Rattle.colour_tables.proofs.tables.ColourTables.new.Goals as goal
+use Rattle.colour_tables.proofs.tables.OrderTables.new.Goals as goal
 
 pub empty_rows-requires-clause-few : goal.empty_rows-requires-clause-few
 empty_rows-requires-clause-few c =

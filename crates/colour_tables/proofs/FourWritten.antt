@@ -10,6 +10,7 @@ use Rattle.set_minima.specs.Packs.{better, with_price}
 use Rattle.colour_tables.proofs.NearNumbers.{near-zero}
 use Rattle.set_minima.proofs.OneCell.{raised}
 use Rattle.colour_tables.proofs.LoadsWritten.{set-same, set-other}
+use Rattle.mill_model.specs.declared.prices.TheConstants.{MAX_PRICE}
 
 module _ (t : List ℤ) (a : ℕ) (x y z v : ℤ) (h : a + 4 ≤ length t) where
   abbrev one : List ℤ
@@ -116,14 +117,14 @@ module _ (weight : ℕ) (price : ℤ) (start table new : List ℤ) (len i a : �
   pub more-old : (k : ℕ) → k < a → entry new k ≡ entry start k
   more-old k b = others k (inl b) ∙ old k (omega arith)
 
-  pub more-near : (n : ℕ) → AreNear n start → AreNear (n + 20000000000) table →
+  pub more-near : (n : ℕ) → AreNear n start → AreNear (n + MAX_PRICE) table →
       (((k : ℕ) → k < a + 4 → IsNear n (entry table k)) → (k : ℕ) → a ≤ k → k < a + 4 →
-      IsNear (n + 20000000000) (entry new k)) → AreNear (n + 20000000000) new
+      IsNear (n + MAX_PRICE) (entry new k)) → AreNear (n + MAX_PRICE) new
   more-near n s t f k = elim (cases_lt k a) [
-    | inl b ↦ subst (IsNear (n + 20000000000)) (sym (others k (inl b))) (t k)
+    | inl b ↦ subst (IsNear (n + MAX_PRICE)) (sym (others k (inl b))) (t k)
     | inr b ↦ elim (cases_lt k (a + 4)) [
       | inl e ↦ f (λ j d. subst (IsNear n) (sym (old j (omega arith))) (s j)) k b e
-      | inr e ↦ subst (IsNear (n + 20000000000)) (sym (others k (inr e))) (t k)
+      | inr e ↦ subst (IsNear (n + MAX_PRICE)) (sym (others k (inr e))) (t k)
     ]
   ]
 
@@ -147,13 +148,13 @@ module _ (weight : ℕ) (price : ℤ) (start table tail : List ℤ) (len m : ℕ
         ap found (front-past m table tail k (omega arith) same e) ∙ done k e b ∙ rw t refl)
   ]
 
-  pub last-near : (n : ℕ) → AreNear n start → AreNear (n + 20000000000) table →
-      (AreNear n (take m table) → AreNear (n + 20000000000) tail) →
-      AreNear (n + 20000000000) (tail ++ drop m table)
+  pub last-near : (n : ℕ) → AreNear n start → AreNear (n + MAX_PRICE) table →
+      (AreNear n (take m table) → AreNear (n + MAX_PRICE) tail) →
+      AreNear (n + MAX_PRICE) (tail ++ drop m table)
   last-near n s t f k = elim (cases_lt k m) [
-    | inl e ↦ subst (IsNear (n + 20000000000))
+    | inl e ↦ subst (IsNear (n + MAX_PRICE))
         (sym (front-in m table tail k (omega arith) same e)) (f (front n s) k)
-    | inr e ↦ subst (IsNear (n + 20000000000))
+    | inr e ↦ subst (IsNear (n + MAX_PRICE))
         (sym (front-past m table tail k (omega arith) same e)) (t k)
   ]
     where

@@ -8,6 +8,7 @@ use Rattle.colour_tables.specs.Rowed.{IsShaped}
 use Rattle.colour_tables.specs.declared.colour_rows.Rows.{Rows}
 use Rattle.set_minima.proofs.CellNumbers.{near-max}
 use Rattle.colour_tables.proofs.NearNumbers.{three-near, AreThreeNear, one-near, two-near, all-near}
+use Rattle.colour_tables.specs.Entries.{row_limit}
 
 pub one-from : (n : ℕ) (best best' second second' row to : List ℤ) (f : ℕ → ℤ) → best' ≡ best →
     second' ≡ second → ((l : ℕ) → l < n → entry row l ≡ f l) → ((l : ℕ) → 0 < l → l < n →
@@ -62,48 +63,48 @@ two-from n best best' second second' third third' row row' z to f g p q s r r' e
 module _ (t : Rows) (shaped : IsShaped t) where
   -- the three greatest are near
   tops-near : (l : ℕ) → 0 < l → l < t.width →
-      AreThreeNear 20500000000000 (column t.best.items t.second.items t.third.items l)
+      AreThreeNear row_limit (column t.best.items t.second.items t.third.items l)
   tops-near l a b =
-      subst (AreThreeNear 20500000000000) (sym (shaped.tops l a b))
-      (three-near 20500000000000 (row_entry t.rows.items t.width l) t.present.items
+      subst (AreThreeNear row_limit) (sym (shaped.tops l a b))
+      (three-near row_limit (row_entry t.rows.items t.width l) t.present.items
       (λ c. shaped.near (c * t.width + l)))
 
   pub picked-near : (n : ℕ) (f : ℕ → ℤ) (to : List ℤ) → length to ≤ t.width →
       entry to 0 ≡ pos 0 → ((l : ℕ) → 0 < l → l < length to →
       IsButOne (f l) (entry t.best.items l) (entry t.second.items l) (entry to l)) →
-      AreNear 20500000000000 to
+      AreNear row_limit to
   picked-near n f to w first e =
-      all-near 20500000000000 to first (λ l a b.
+      all-near row_limit to first (λ l a b.
       let k = tops-near l a (omega arith) in
-      one-near 20500000000000 (f l) (entry t.best.items l) (entry t.second.items l) (entry to l)
+      one-near row_limit (f l) (entry t.best.items l) (entry t.second.items l) (entry to l)
       k.best k.second (e l a b))
 
   pub picked-or-near : (f : ℕ → ℤ) (z to : List ℤ) → length to ≤ t.width →
-      entry to 0 ≡ pos 0 → AreNear 20500000000000 z → ((l : ℕ) → 0 < l → l < length to → (w : ℤ)
+      entry to 0 ≡ pos 0 → AreNear row_limit z → ((l : ℕ) → 0 < l → l < length to → (w : ℤ)
       × IsButOne (f l) (entry t.best.items l) (entry t.second.items l) w
-      × (entry to l ≡ int_max w (entry z l))) → AreNear 20500000000000 to
+      × (entry to l ≡ int_max w (entry z l))) → AreNear row_limit to
   picked-or-near f z to w first near e =
-      all-near 20500000000000 to first (λ l a b.
+      all-near row_limit to first (λ l a b.
       let k = tops-near l a (omega arith) in
       let r = e l a b in
-      subst (IsNear 20500000000000) (sym r.2) (near-max 20500000000000 r.0 (entry z l)
-      (one-near 20500000000000 (f l) (entry t.best.items l) (entry t.second.items l) r.0
+      subst (IsNear row_limit) (sym r.2) (near-max row_limit r.0 (entry z l)
+      (one-near row_limit (f l) (entry t.best.items l) (entry t.second.items l) r.0
       k.best k.second r.1) (near l)))
 
   pub picked-two-near : (f g : ℕ → ℤ) (z to : List ℤ) → length to ≤ t.width →
-      entry to 0 ≡ pos 0 → AreNear 20500000000000 z → ((l : ℕ) → 0 < l → l < length to → (w : ℤ)
+      entry to 0 ≡ pos 0 → AreNear row_limit z → ((l : ℕ) → 0 < l → l < length to → (w : ℤ)
       × IsButTwo (f l) (g l) (entry t.best.items l) (entry t.second.items l)
       (entry t.third.items l) w
-      × (entry to l ≡ int_max w (entry z l))) → AreNear 20500000000000 to
+      × (entry to l ≡ int_max w (entry z l))) → AreNear row_limit to
   picked-two-near f g z to w first near e =
-      all-near 20500000000000 to first (λ l a b.
+      all-near row_limit to first (λ l a b.
       let k = tops-near l a (omega arith) in
       let r = e l a b in
-      subst (IsNear 20500000000000) (sym r.2) (near-max 20500000000000 r.0 (entry z l)
-      (two-near 20500000000000 (f l) (g l) (entry t.best.items l) (entry t.second.items l)
+      subst (IsNear row_limit) (sym r.2) (near-max row_limit r.0 (entry z l)
+      (two-near row_limit (f l) (g l) (entry t.best.items l) (entry t.second.items l)
       (entry t.third.items l) r.0 k.best k.second k.third r.1) (near l)))
 
-  pub best-near : AreNear 20500000000000 t.best.items
+  pub best-near : AreNear row_limit t.best.items
   best-near =
-      all-near 20500000000000 t.best.items shaped.first (λ l a b.
+      all-near row_limit t.best.items shaped.first (λ l a b.
       let n : length t.best.items ≡ t.width = shaped.best in (tops-near l a (omega arith)).best)

@@ -6,6 +6,8 @@ use Rattle.std.specs.Int.{int_max, int_min}
 use Rattle.set_minima.specs.Packs.{better, with_price}
 use Rattle.set_minima.specs.Cells.{found, IsNear, IsSmall}
 use Rattle.set_minima.proofs.CellNumbers.{found-max, found-plus, fits-64}
+use Rattle.mill_model.specs.declared.prices.TheConstants.{MAX_PRICE}
+use Rattle.colour_tables.specs.Entries.{table_limit}
 
 -- what tests say
 pub le-true : (a b : ℤ) → int_le a b ≡ true → a ≤ℤ b
@@ -31,7 +33,7 @@ found-least n p a c t h k s =
     ∙ ap (better (found (neg_ℤ a))) (found-plus n p t (neg_ℤ c) h k (small-turned p c s))
 
 -- a charge less a near number has 64 bits
-pub less-fits : (c t : ℤ) → IsSmall 20000000000 c → IsNear 200000000000000000 t →
+pub less-fits : (c t : ℤ) → IsSmall MAX_PRICE c → IsNear table_limit t →
     SFits w64 (c -ℤ t)
 less-fits c t s (inl k) =
     fits-64 (c -ℤ t) (omega (arith, ints, k.0, k.1, s.0, s.1)) (omega (

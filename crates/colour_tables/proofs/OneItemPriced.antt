@@ -20,6 +20,8 @@ use Rattle.std.proofs.lemmas.Int.{ints}
 use Rattle.colour_tables.specs.declared.items.Item.{Item}
 use Rattle.colour_tables.proofs.ColoursPaid.{same-name}
 use Rattle.colour_tables.proofs.RunsLetIn.{has-place, not-true}
+use Rattle.mill_model.specs.declared.prices.TheConstants.{MAX_PRICE}
+use Rattle.mill_model.specs.declared.order.TheConstants.{MAX_ORDERS}
 
 -- places of a run differ
 pub places-differ : (run : List Item) (s t : ℕ) → s < t → t < length run →
@@ -205,13 +207,13 @@ in-one-run rest name present c x j A o h k at f = elim (either (eqb x c)) [
 
 pub part-small : (xs : List Item) (at : ℕ) (item : Item) → at < length xs →
     item.place ≡ (item_at xs at).place → item.weight ≡ (item_at xs at).weight →
-    IsSmall 20000000000 item.price → (a n : ℕ) → AreSmall (take n (drop a xs)) →
+    IsSmall MAX_PRICE item.price → (a n : ℕ) → AreSmall (take n (drop a xs)) →
     AreSmall (take n (drop a (set xs at item)))
 part-small xs at item h p w s a n small =
     let len : length (take n (drop a (set xs at item))) ≡ length (take n (drop a xs)) =
     part-length xs at item h p w a n in
     record {
-      few = subst (λ z. z ≤ 1024) (sym len) small.few;
+      few = subst (λ z. z ≤ MAX_ORDERS) (sym len) small.few;
       weights = λ t b. (let c : t < length (take n (drop a xs)) = omega arith in
           subst (λ z. 0 < z) (sym (elim (part-item xs at item h p w a n t c) [
             | inl e ↦ ap (λ (i : Item). i.weight) e.1 ∙ w ∙ sym (ap (λ (i : Item). i.weight) e.2)
@@ -219,10 +221,10 @@ part-small xs at item h p w s a n small =
           ])) (small.weights t c));
       prices = λ t. elim (cases_lt t (length (take n (drop a xs)))) [
         | inl c ↦ elim (part-item xs at item h p w a n t c) [
-          | inl e ↦ subst (λ (i : Item). IsSmall 20000000000 i.price) (sym e.1) s
-          | inr e ↦ subst (λ (i : Item). IsSmall 20000000000 i.price) (sym e.1) (small.prices t)
+          | inl e ↦ subst (λ (i : Item). IsSmall MAX_PRICE i.price) (sym e.1) s
+          | inr e ↦ subst (λ (i : Item). IsSmall MAX_PRICE i.price) (sym e.1) (small.prices t)
         ]
-        | inr c ↦ subst (λ (i : Item). IsSmall 20000000000 i.price)
+        | inr c ↦ subst (λ (i : Item). IsSmall MAX_PRICE i.price)
             (sym (get_or_past (take n (drop a (set xs at item))) t no_item (omega arith)))
             (omega (arith, ints), omega (arith, ints))
       ];

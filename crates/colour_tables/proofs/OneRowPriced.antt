@@ -21,6 +21,7 @@ use Rattle.set_minima.proofs.OneCell.{raised}
 use Rattle.set_minima.proofs.WholeTables.{table-adds}
 use Rattle.colour_tables.proofs.RunsLetIn.{self-holds}
 use Rattle.colour_tables.proofs.ColoursPaid.{table-price, same-name}
+use Rattle.colour_tables.specs.Entries.{row_limit}
 
 -- an order is let in to those of its colour
 own-next : (rest : List Order) (x j : ℕ) → colour_at rest j ≡ x →
@@ -137,7 +138,7 @@ pub shaped-made : (t u : Rows) (c : ℕ) (rows best second third row : List ℤ)
     u.best.items ≡ best → u.second.items ≡ second → u.third.items ≡ third →
     length rows ≡ length t.rows.items → length best ≡ t.width → length second ≡ t.width →
     length third ≡ t.width → AreTops t.width t.present.items rows best second third →
-    entry best 0 ≡ pos 0 → AreNear 20500000000000 row →
+    entry best 0 ≡ pos 0 → AreNear row_limit row →
     ((l : ℕ) → l < t.width → entry rows (c * t.width + l) ≡ entry row l) →
     ((i : ℕ) → i < c * t.width ⊎ c * t.width + t.width ≤ i →
     entry rows i ≡ entry t.rows.items i) → IsShaped u
@@ -160,8 +161,8 @@ shaped-made t u c rows best second third row h w p r b s x n nb ns nt tops first
       (subst (λ z. AreTops t.width t.present.items rows best z u.third.items) (sym s)
       (subst (λ z. AreTops t.width t.present.items rows best second z) (sym x) tops)))));
   first = ap (λ (xs : List ℤ). entry xs 0) b ∙ first;
-  near = subst (λ xs. AreNear 20500000000000 xs) (sym r)
-      (rows-near 20500000000000 t.width c t.rows.items rows row h.near near e o);
+  near = subst (λ xs. AreNear row_limit xs) (sym r)
+      (rows-near row_limit t.width c t.rows.items rows row h.near near e o);
 }
 
 -- rows that are filled anew

@@ -21,6 +21,8 @@ use Rattle.set_minima.proofs.WholeTables.{table-allowed}
 use Rattle.colour_tables.proofs.RunsLetIn.{self-holds}
 use Rattle.colour_tables.proofs.ColoursPaid.{table-of-colours, paid-table, own-table, full-table}
 use Rattle.colour_tables.proofs.AllowedByTables.{row-own}
+use Rattle.colour_tables.specs.Entries.{row_limit}
+use Rattle.colour_tables.specs.Entries.{table_limit}
 
 module _ (rest : List Order) (prices : List ℤ) (name : ℕ → ℕ) (t : Rows) (shaped : IsShaped t)
     (rows : AreRows rest prices name t) (n : ℕ) (few : n ≤ t.width) where
@@ -89,8 +91,8 @@ row-cells rest prices A own k width n f row w e p l b =
     subst (λ z. IsBest A own k rest prices l (found z)) (sym (e l (omega arith)))
     (p l (omega arith))
 
-pub near-large : (xs : List ℤ) → AreNear 20500000000000 xs → AreNear 200000000000000000 xs
-near-large xs h l = near-wider 20500000000000 200000000000000000 (entry xs l) (omega arith) (h l)
+pub near-large : (xs : List ℤ) → AreNear row_limit xs → AreNear table_limit xs
+near-large xs h l = near-wider row_limit table_limit (entry xs l) (omega arith) (h l)
 
 -- the empty set alone, where no order to come has one of the two colours
 pub none-table : (rest : List Order) (prices : List ℤ) (own : List ℕ) (n : ℕ) (table : List ℤ) →

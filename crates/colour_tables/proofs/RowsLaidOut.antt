@@ -11,6 +11,7 @@ use Rattle.set_minima.specs.Cells.{IsNear, AreNear, IsSmall}
 use Rattle.colour_tables.specs.Entries.{entry, AreSmallAll}
 use Rattle.colour_tables.specs.Threes.{AreWithin}
 use Rattle.colour_tables.proofs.NearNumbers.{near-zero}
+use Rattle.mill_model.specs.declared.prices.TheConstants.{MAX_PRICE}
 
 zeros : (n l : ℕ) → entry (replicate n (pos 0)) l ≡ pos 0
 zeros zero l = refl
@@ -71,11 +72,11 @@ each-push P xs now v n e l old new k h =
           (subst (P k) (sym (entry-last xs v)) (subst (λ m. P m v) r new)))
     ])
 
-pub all-small : (xs : List ℤ) → ((k : ℕ) → k < length xs → IsSmall 20000000000 (entry xs k)) →
+pub all-small : (xs : List ℤ) → ((k : ℕ) → k < length xs → IsSmall MAX_PRICE (entry xs k)) →
     AreSmallAll xs
 all-small xs h l = elim (cases_lt l (length xs)) [
   | inl b ↦ h l b
-  | inr b ↦ subst (IsSmall 20000000000) (sym (past xs l b)) (
+  | inr b ↦ subst (IsSmall MAX_PRICE) (sym (past xs l b)) (
     omega (arith, ints),
     omega (
       arith,

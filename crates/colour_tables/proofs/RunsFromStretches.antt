@@ -24,6 +24,8 @@ use Rattle.colour_tables.specs.declared.items.Item.{Item}
 use Rattle.colour_tables.proofs.RunsLetIn.{has-place}
 use Rattle.colour_tables.proofs.ColoursPaid.{held-name}
 use Rattle.colour_tables.proofs.OneItemPriced.{part-at}
+use Rattle.mill_model.specs.declared.prices.TheConstants.{MAX_PRICE}
+use Rattle.mill_model.specs.declared.order.TheConstants.{MAX_ORDERS}
 
 -- places that differ each stand once
 once-apart : (run : List Item) →
@@ -224,7 +226,7 @@ module _ (rest : List Order) (prices : List ℤ) (same : length prices ≡ lengt
           (λ k. holds-named i k) (λ k. named-holds i h k);
     }
 
-    pub run-small : length rest ≤ 1024 → AreOrders rest → AreSmallAll prices → AreSmall (run c)
+    pub run-small : length rest ≤ MAX_ORDERS → AreOrders rest → AreSmallAll prices → AreSmall (run c)
     run-small few orders small = record {
       few =
           let n : length (run c) ≡ end - at = run-length in
@@ -235,9 +237,9 @@ module _ (rest : List Order) (prices : List ℤ) (same : length prices ≡ lengt
           let i = item-is t h in
           subst (λ z. 0 < z) (sym i.weighs) (orders (item_at (run c) t).place i.inside);
       prices = λ t. elim (cases_lt t (length (run c))) [
-        | inl b ↦ subst (IsSmall 20000000000) (sym (item-is t b).priced)
+        | inl b ↦ subst (IsSmall MAX_PRICE) (sym (item-is t b).priced)
             (small (item_at (run c) t).place)
-        | inr b ↦ subst (λ (z : Item). IsSmall 20000000000 z.price) (sym (past (run c) t b))
+        | inr b ↦ subst (λ (z : Item). IsSmall MAX_PRICE z.price) (sym (past (run c) t b))
             (omega (arith, ints), omega (arith, ints))
       ];
     }

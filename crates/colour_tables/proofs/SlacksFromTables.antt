@@ -26,6 +26,8 @@ use Rattle.set_minima.specs.Cells.{found, cell, IsSmall}
 use Rattle.colour_tables.specs.Leasts.{AreCharged}
 use Rattle.colour_tables.specs.Leasts.{IsLeast, IsRoom, two_colours}
 use Rattle.colour_tables.proofs.ColoursPaid.{sum-unset, top-values}
+use Rattle.mill_model.specs.declared.prices.TheConstants.{MAX_PRICE}
+use Rattle.mill_model.specs.declared.order.TheConstants.{MAX_ORDERS}
 
 -- a table that reaches to the room of a slab
 pub least-top : (rest : List Order) (prices : List ℤ) (charge : ℕ → ℕ) (largest base n : ℕ)
@@ -246,19 +248,3 @@ slack-without-priced rest prices charge largest base own least j v f d h =
     let k : all_but j j ≡ false = rw (eq-eqb j j refl) refl in
     slack-without rest (set prices j v) charge largest base own least j f d
     (least-price rest prices charge largest base own least (all_but j) j v k h)
-
--- the least is the slack of a set, and so not large
-pub least-small : (rest : List Order) (prices : List ℤ) (charge : ℕ → ℕ) (largest base : ℕ)
-    (own : List ℕ) (least : ℤ) (A : ℕ → Bool) → base ≤ largest → different own ≤ 2 →
-    length prices ≤ 1024 → ((i : ℕ) → IsSmall 20000000000 (get_or prices i (pos 0))) →
-    ((l : ℕ) → charge l ≤ 100000000) →
-    IsLeast rest prices charge largest base A own least → IsSmall 30000000000000 least
-least-small rest prices charge largest base own least A f d n priced small h =
-    let s = h.some (neg_ℤ least) (least-found rest prices charge largest base own least A f d h) in
-    let g = gain-within 20000000000 100000000 charge base rest prices s.0 priced small in
-    within (length prices) least (gain charge base rest prices s.0) s.2 n g.0 g.1
-  where
-    within : (n : ℕ) (b g : ℤ) → neg_ℤ b ≡ g → n ≤ 1024 →
-        neg_ℤ (pos (n * 20000000000 + 60 * 100000000)) ≤ℤ g →
-        g ≤ℤ pos (n * 20000000000 + 60 * 100000000) → IsSmall 30000000000000 b
-    within n b g e l lo hi = (omega (arith, ints), omega (arith, ints))

@@ -20,12 +20,13 @@ use Rattle.colour_tables.proofs.RowsLaidOut.{all-small}
 use Rattle.colour_tables.proofs.RunsFromStretches.{within, run-is, run-small, colours-once}
 use Rattle.colour_tables.proofs.RunsFromStretches.{colours-all}
 use Rattle.colour_tables.proofs.StretchesFound.{few-stretches}
+use Rattle.mill_model.specs.declared.order.TheConstants.{MAX_ORDERS}
 
 pub prices-small : (prices : List ℤ) → All IsPrice prices → AreSmallAll prices
 prices-small prices h =
     all-small prices (λ k b. let p : IsPrice (entry prices k) = h k _ b in (p.0, p.1))
 
-module _ (rest : List Order) (prices : List ℤ) (few : length rest ≤ 1024) (orders : AreOrders rest)
+module _ (rest : List Order) (prices : List ℤ) (few : length rest ≤ MAX_ORDERS) (orders : AreOrders rest)
     (same : length prices ≡ length rest) (small : AreSmallAll prices)
     (sorted : List Coloured) (by : IsByColour rest sorted) (runs : Runs)
     (st : AreStretches sorted (length sorted) runs.ends.items) (colours : List ℕ)
@@ -39,7 +40,7 @@ module _ (rest : List Order) (prices : List ℤ) (few : length rest ≤ 1024) (o
   inside c h =
       holds-below-lt c (length runs.ends.items) (subst (λ xs. holds c xs ≡ true) is h)
 
-  pub made-few : length runs.ends.items ≤ 1024
+  pub made-few : length runs.ends.items ≤ MAX_ORDERS
   made-few =
       let a : length runs.ends.items ≤ length sorted = few-stretches sorted runs.ends.items st in
       let b : length sorted ≡ length rest = by.count in

@@ -8,6 +8,8 @@ use Rattle.set_minima.specs.Cells.{IsSmall}
 use Rattle.colour_tables.specs.Threes.{once}
 use Rattle.colour_tables.specs.Colours.{but_for}
 use Rattle.colour_tables.specs.declared.items.Item.{Item}
+use Rattle.mill_model.specs.declared.prices.TheConstants.{MAX_PRICE}
+use Rattle.mill_model.specs.declared.order.TheConstants.{MAX_ORDERS}
 
 abbrev pub places : List Item → List ℕ
 places run = map (λ item. item.place) run
@@ -38,6 +40,6 @@ let_in before run skip t i = before i || (holds i (places (take t run)) && but_f
 
 -- what a run can hold: few items with small prices, each with some weight
 pub record AreSmall (run : List Item) : Type 0 where
-  pub few : length run ≤ 1024
+  pub few : length run ≤ MAX_ORDERS
   pub weights : (t : ℕ) → t < length run → 0 < (item_at run t).weight
-  pub prices : (t : ℕ) → IsSmall 20000000000 (item_at run t).price
+  pub prices : (t : ℕ) → IsSmall MAX_PRICE (item_at run t).price

@@ -16,6 +16,9 @@ use Rattle.colour_tables.specs.declared.colour_rows.Rows.{Rows}
 use Rattle.colour_tables.specs.declared.slabs.Runs.{Runs}
 use Rattle.colour_tables.specs.declared.slab.Slab.{Slab}
 use Rattle.colour_tables.specs.declared.turn.Turn.{Turn}
+use Rattle.mill_model.specs.declared.order.TheConstants.{MAX_ORDERS}
+use Rattle.mill_model.specs.Limits.{all_prices}
+use Rattle.colour_tables.specs.Entries.{table_limit}
 
 -- the orders, a price for each, the colours that they have, and the largest size with its charges
 pub record PricedOrders : Type 0 where
@@ -32,7 +35,7 @@ colour_of orders c = slice_index_or orders.colours c 0
 -- runs, rows, their three greatest values, and 60 times the charges are those of the orders
 pub record AreTables (orders : PricedOrders) (runs : Runs) (rows : Rows) (paid : List ℤ) : Type 0
   where
-    pub few : length orders.rest ≤ 1024
+    pub few : length orders.rest ≤ MAX_ORDERS
     pub priced : AreSmallAll orders.prices
     pub shaped : IsShaped rows
     pub width : rows.width ≡ orders.largest + 1
@@ -67,8 +70,8 @@ pub record IsTurnOf (orders : PricedOrders) (turn : Turn) : Type 0 where
   pub known : holds turn.colour (below (length orders.colours)) ≡ true
   pub alone : length turn.alone.items ≡ orders.largest + 1
   pub beside : length turn.beside.items ≡ orders.largest + 1
-  pub near : AreNear 20480000000000 turn.alone.items
-  pub around : AreNear 40980000000000 turn.beside.items
+  pub near : AreNear all_prices turn.alone.items
+  pub around : AreNear table_limit turn.beside.items
 
 -- the order in its turn may join the slab
 pub record MayJoin (orders : PricedOrders) (turn : Turn) (slab : Slab) : Type 0 where

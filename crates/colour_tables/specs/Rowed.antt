@@ -11,6 +11,7 @@ use Rattle.set_minima.specs.Cells.{found, AreNear}
 use Rattle.colour_tables.specs.Threes.{once, row_entry, AreWithin, AreTops}
 use Rattle.colour_tables.specs.Colours.{of_colour, of_colours, but_order}
 use Rattle.colour_tables.specs.declared.colour_rows.Rows.{Rows}
+use Rattle.colour_tables.specs.Entries.{row_limit}
 
 -- the lists are as long as they have to be, their numbers are not large, and the three greatest
 -- are those of the rows
@@ -23,7 +24,7 @@ pub record IsShaped (t : Rows) : Type 0 where
   pub third : length t.third.items ≡ t.width
   pub tops : AreTops t.width t.present.items t.rows.items t.best.items t.second.items t.third.items
   pub first : entry t.best.items 0 ≡ pos 0
-  pub near : AreNear 20500000000000 t.rows.items
+  pub near : AreNear row_limit t.rows.items
 
 -- each row is the table of a colour alone, and each order has one of the colours
 pub record AreRows (rest : List Order) (prices : List ℤ) (name : ℕ → ℕ) (t : Rows) : Type 0 where
@@ -47,4 +48,4 @@ pub record IsSized (t : Rows) : Type 0 where
   pub best : length t.best.items ≡ t.width
   pub second : length t.second.items ≡ t.width
   pub third : length t.third.items ≡ t.width
-  pub near : AreNear 20500000000000 t.rows.items
+  pub near : AreNear row_limit t.rows.items

@@ -16,6 +16,10 @@ ghost use Rattle.colour_tables.specs.Threes.{but, row_entry, once};
 ghost use Rattle.colour_tables.specs.Items.{IsRun, AreSmall};
 ghost use Rattle.colour_tables.specs.Colours.{of_colours, but_order, but_for};
 ghost use Rattle.colour_tables.specs.Rowed.{IsShaped, AreRows, apart_from};
+ghost use Rattle.mill_model.specs.declared.prices.TheConstants.{MAX_PRICE};
+ghost use Rattle.mill_model.specs.Limits.{all_prices};
+ghost use Rattle.colour_tables.specs.Entries.{row_limit};
+ghost use Rattle.colour_tables.specs.Entries.{table_limit};
 
 use crate::gain::least;
 use crate::items::Item;
@@ -53,7 +57,7 @@ impl Rows {
         ensures long { length result.now ≡ self.now.width }
         ensures is { (l : ℕ) → l < self.now.width → entry result.now l
             ≡ row_entry self.now.rows.items self.now.width l c }
-        ensures near { AreNear 20500000000000 result.now }
+        ensures near { AreNear row_limit result.now }
     {
         row_of(&self.rows, c, self.width)
     }
@@ -68,7 +72,7 @@ impl Rows {
             AreRows rest prices name self.now →
             IsTable (of_colours rest (map name (but c self.now.present.items))) [] 1 rest prices
             (length table.old) (cell table.new) }
-        ensures near { AreNear 20500000000000 table.new }
+        ensures near { AreNear row_limit table.new }
     {
         others(table, &self.best, &self.second, self.row(c));
     }
@@ -86,7 +90,7 @@ impl Rows {
             IfSome skip (λ j. colour_at rest j ≡ name c) →
             IsTable (but_for skip) (name c ∷ []) 2 rest prices (length table.old)
             (cell table.new) }
-        ensures near { AreNear 40980000000000 table.new }
+        ensures near { AreNear table_limit table.new }
     {
         self.put_others(table, c);
         add_run(table, run, skip);
@@ -100,14 +104,14 @@ impl Rows {
         requires some { 0 < length table.old }
         requires few { length table.old ≤ self.now.width }
         requires long { length table.old ≤ length alone.now }
-        requires alone { AreNear 20500000000000 alone.now }
+        requires alone { AreNear row_limit alone.now }
         ensures is { (rest : List Order) → (prices : List ℤ) → (name : ℕ → ℕ) → (j : ℕ) →
             AreRows rest prices name self.now →
             IsTable (but_order rest (name c) j) (name c ∷ []) 1 rest prices (length table.old)
             (cell alone.now) →
             IsTable (apart_from rest (map name (but d (but c self.now.present.items))) (name c) j)
             [] 1 rest prices (length table.old) (cell table.new) }
-        ensures near { AreNear 20500000000000 table.new }
+        ensures near { AreNear row_limit table.new }
     {
         others_of_two(
             table,
@@ -135,7 +139,7 @@ impl Rows {
         requires some { 0 < length table.old }
         requires few { length table.old ≤ self.now.width }
         requires long { length table.old ≤ length alone.now }
-        requires alone { AreNear 20500000000000 alone.now }
+        requires alone { AreNear row_limit alone.now }
         requires small { AreSmall run.now }
         ensures is { (rest : List Order) → (prices : List ℤ) → (name : ℕ → ℕ) → (j : ℕ) →
             AreRows rest prices name self.now → IsRun rest prices (name d) run.now →
@@ -143,7 +147,7 @@ impl Rows {
             IsTable (but_order rest (name c) j) (name c ∷ []) 1 rest prices (length table.old)
             (cell alone.now) →
             IsTable (all_but j) (name d ∷ []) 2 rest prices (length table.old) (cell table.new) }
-        ensures near { AreNear 40980000000000 table.new }
+        ensures near { AreNear table_limit table.new }
     {
         self.put_others_of_two(table, c, d, alone);
         add_run(table, run, None);
@@ -156,13 +160,13 @@ impl Rows {
         requires some { 0 < length table.old }
         requires few { length table.old ≤ self.now.width }
         requires long { length table.old ≤ length alone.now }
-        requires alone { AreNear 20500000000000 alone.now }
+        requires alone { AreNear row_limit alone.now }
         ensures is { (rest : List Order) → (prices : List ℤ) → (name : ℕ → ℕ) → (j : ℕ) →
             AreRows rest prices name self.now → colour_at rest j ≡ name c →
             IsTable (but_order rest (name c) j) (name c ∷ []) 1 rest prices (length table.old)
             (cell alone.now) →
             IsTable (all_but j) [] 1 rest prices (length table.old) (cell table.new) }
-        ensures near { AreNear 20500000000000 table.new }
+        ensures near { AreNear row_limit table.new }
     {
         others_or(table, &self.best, &self.second, self.row(c), alone);
     }
@@ -180,7 +184,7 @@ impl Rows {
             IfSome skip (λ j. colour_at rest j ≡ name c) → different own ≡ 2 →
             holds (name c) own ≡ true → holds (name d) own ≡ true →
             IsTable (but_for skip) own 2 rest prices (length table.old) (cell table.new) }
-        ensures near { AreNear 40980000000000 table.new }
+        ensures near { AreNear table_limit table.new }
     {
         let n = table.len();
         table.copy_from_slice(&self.row(d)[..n]);
@@ -231,7 +235,7 @@ impl Rows {
         requires some { 0 < length table.old }
         requires few { length table.old ≤ self.now.width }
         requires long { length table.old ≤ length alone.now }
-        requires alone { AreNear 20500000000000 alone.now }
+        requires alone { AreNear row_limit alone.now }
         requires small { AreSmall run.now }
         requires reach { length table.old ≤ length charges.now }
         requires charges { AreSmallAll charges.now }
@@ -263,7 +267,7 @@ impl Rows {
         requires some { 0 < length table.old }
         requires few { length table.old ≤ self.now.width }
         requires long { length table.old ≤ length alone.now }
-        requires alone { AreNear 20500000000000 alone.now }
+        requires alone { AreNear row_limit alone.now }
         requires reach { length table.old ≤ length charges.now }
         requires charges { AreSmallAll charges.now }
         ensures is { (rest : List Order) → (prices : List ℤ) → (name : ℕ → ℕ) →
@@ -316,9 +320,9 @@ impl Rows {
         requires held { holds c self.old.present.items ≡ true }
         requires once { once self.old.present.items ≡ true }
         requires long { length alone.old ≡ self.old.width }
-        requires alone { AreNear 20480000000000 alone.old }
+        requires alone { AreNear all_prices alone.old }
         requires weight { 0 < weight }
-        requires price { IsSmall 20000000000 price }
+        requires price { IsSmall MAX_PRICE price }
         ensures shaped { IsShaped self.new }
         ensures present { self.new.present.items ≡ self.old.present.items }
         ensures width { self.new.width ≡ self.old.width }

@@ -14,6 +14,7 @@ ghost use Rattle.colour_tables.specs.Colours.{of_colour};
 ghost use Rattle.colour_tables.specs.Owned.{AreRuns, AreRunsSafe};
 ghost use Rattle.colour_tables.specs.Rowed.{IsSized, IsShaped, AreRows};
 ghost use Rattle.set_minima.specs.Joins.{AreOrders};
+ghost use Rattle.colour_tables.specs.Entries.{row_limit};
 
 use crate::colour_rows::{Rows, row_of};
 use crate::items::Item;
@@ -32,7 +33,7 @@ fn put_row(rows: &mut [i64], c: usize, width: usize, run: &[Item])
         (λ l. found (row_entry rows.new width l c)) }
     ensures other { (i : ℕ) → i < c * width ⊎ c * width + width ≤ i →
         entry rows.new i ≡ entry rows.old i }
-    ensures near { AreNear 20500000000000 rows.old → AreNear 20500000000000 rows.new }
+    ensures near { AreNear row_limit rows.old → AreNear row_limit rows.new }
 {
     let at = c * width;
     fill_run(&mut rows[at..at + width], run, None);
@@ -58,7 +59,7 @@ fn add_row(
         (λ l. found (row_entry rows.new (length best.old) l c)) }
     ensures other { (i : ℕ) → i < c * length best.old ⊎ c * length best.old + length best.old ≤ i →
         entry rows.new i ≡ entry rows.old i }
-    ensures near { AreNear 20500000000000 rows.old → AreNear 20500000000000 rows.new }
+    ensures near { AreNear row_limit rows.old → AreNear row_limit rows.new }
     ensures raised { (l : ℕ) → 0 < l → l < length best.old →
         column best.new second.new third.new l ≡
         insert (row_entry rows.new (length best.old) l c)
@@ -85,7 +86,7 @@ pub(crate) fn fill_all(
     requires third { length third.old ≡ length best.old }
     requires safe { AreRunsSafe present.now runs.now }
     requires once { once present.now ≡ true }
-    requires near { AreNear 20500000000000 rows.old }
+    requires near { AreNear row_limit rows.old }
     ensures rows { (rest : List Order) → (prices : List ℤ) → (name : ℕ → ℕ) →
         AreRuns rest prices name present.now runs.now → (c : ℕ) →
         holds c present.now ≡ true →
@@ -93,7 +94,7 @@ pub(crate) fn fill_all(
         (λ l. found (row_entry rows.new (length best.old) l c)) }
     ensures tops { AreTops (length best.old) present.now rows.new best.new second.new third.new }
     ensures first { entry best.new 0 ≡ pos 0 }
-    ensures near { AreNear 20500000000000 rows.new }
+    ensures near { AreNear row_limit rows.new }
 {
     clear(best);
     clear(second);

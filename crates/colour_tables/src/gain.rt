@@ -8,12 +8,13 @@ ghost use Rattle.set_minima.specs.Cells.{cell, found, AreNear};
 ghost use Rattle.colour_tables.specs.Entries.{entry};
 ghost use Rattle.colour_tables.specs.Entries.{AreSmallAll};
 ghost use Rattle.colour_tables.specs.Leasts.{AreCharged};
+ghost use Rattle.colour_tables.specs.Entries.{table_limit};
 
 /// The least charge less value.
 pub(crate) fn least(charges: &[i64], table: &[i64]) -> i64
     requires reach { length table.now ≤ length charges.now }
     requires small { AreSmallAll charges.now }
-    requires near { AreNear 200000000000000000 table.now }
+    requires near { AreNear table_limit table.now }
     ensures top { (allowed : ℕ → Bool) → (own : List ℕ) → (k : ℕ) → (rest : List Order) →
         (prices : List ℤ) → (charge : ℕ → ℕ) → (base : ℕ) →
         AreCharged charge base (length table.now) charges.now →
@@ -33,7 +34,7 @@ pub(crate) fn least_above(charges: &[i64], table: &[i64]) -> i64
     requires some { 0 < length table.now }
     requires reach { length table.now ≤ length charges.now }
     requires small { AreSmallAll charges.now }
-    requires near { AreNear 200000000000000000 table.now }
+    requires near { AreNear table_limit table.now }
     ensures top { (allowed : ℕ → Bool) → (own : List ℕ) → (k : ℕ) → (rest : List Order) →
         (prices : List ℤ) → (charge : ℕ → ℕ) → (base : ℕ) →
         AreCharged charge base (length table.now) charges.now →

@@ -20,12 +20,16 @@ ghost use Rattle.colour_tables.specs.Rowed.{IsShaped, AreRows};
 ghost use Rattle.colour_tables.specs.Items.{AreSmall, IsRun, item_at};
 ghost use Rattle.colour_tables.specs.Owned.{run_of, IsRunSafe, AreRunsSafe, AreRuns, IsHeld, IsOwn};
 ghost use Rattle.colour_tables.specs.Owned.{MayTake, IsTurn, IsInRun, IsFound};
+ghost use Rattle.mill_model.specs.declared.prices.TheConstants.{MAX_PRICE};
+ghost use Rattle.mill_model.specs.Limits.{all_prices};
+ghost use Rattle.colour_tables.specs.Entries.{row_limit};
+ghost use Rattle.colour_tables.specs.Entries.{table_limit};
 
 use crate::colour_rows::Rows;
 use crate::gain::{least, least_above};
 use crate::items::Item;
 use crate::slab::Own;
-use crate::table::{clear, fill_run};
+use crate::table::{NOTHING, clear, fill_run};
 use crate::turn::TurnTables;
 
 /// The orders to come, colour by colour.
@@ -65,7 +69,7 @@ impl Runs {
     /// Sets the price of one of the orders of a colour.
     pub(crate) fn set_price(&mut self, at: usize, price: i64)
         requires here { at < length self.old.items.items }
-        requires price { IsSmall 20000000000 price }
+        requires price { IsSmall MAX_PRICE price }
         ensures ends { self.new.ends.items ≡ self.old.ends.items }
         ensures items { self.new.items.items ≡ set self.old.items.items at (record {
           place = (item_at self.old.items.items at).place;
@@ -90,7 +94,7 @@ fn least_front(charges: &[i64], table: &[i64], n: usize) -> i64
     requires long { n ≤ length table.now }
     requires reach { n ≤ length charges.now }
     requires small { AreSmallAll charges.now }
-    requires near { AreNear 200000000000000000 table.now }
+    requires near { AreNear table_limit table.now }
     ensures top { (allowed : ℕ → Bool) → (own : List ℕ) → (k : ℕ) → (rest : List Order) →
         (prices : List ℤ) → (charge : ℕ → ℕ) → (base : ℕ) →
         AreCharged charge base n charges.now →
@@ -170,8 +174,8 @@ pub(crate) fn begin_turn(
         AreRuns rest prices name rows.now.present.items runs.now → j < length rest →
         colour_at rest j ≡ name c →
         IsTurn rest prices name rows.now.width c j alone.new beside.new }
-    ensures alone { AreNear 20480000000000 alone.new }
-    ensures beside { AreNear 40980000000000 beside.new }
+    ensures alone { AreNear all_prices alone.new }
+    ensures beside { AreNear table_limit beside.new }
 {
     let run = runs.run(c);
     fill_run(alone, run, Some(j));
@@ -184,7 +188,7 @@ pub(crate) fn least_new_with(charges: &[i64], beside: &[i64], n: usize) -> i64
     requires long { n ≤ length beside.now }
     requires reach { n ≤ length charges.now }
     requires charges { AreSmallAll charges.now }
-    requires near { AreNear 40980000000000 beside.now }
+    requires near { AreNear table_limit beside.now }
     ensures is { (rest : List Order) → (prices : List ℤ) → (charge : ℕ → ℕ) →
         (largest c j : ℕ) → length prices ≡ length rest → j < length rest →
         colour_at rest j ≡ c →
@@ -211,8 +215,8 @@ pub(crate) fn least_with(
     requires held { IsHeld rows.now.present.items own }
     requires colour { holds turn.now.colour rows.now.present.items ≡ true }
     requires takes { MayTake turn.now.colour own }
-    requires alone { AreNear 20500000000000 turn.now.alone.now }
-    requires beside { AreNear 40980000000000 turn.now.beside.now }
+    requires alone { AreNear row_limit turn.now.alone.now }
+    requires beside { AreNear table_limit turn.now.beside.now }
     requires same { length turn.now.alone.now ≡ rows.now.width }
     requires wide { length turn.now.beside.now ≡ rows.now.width }
     requires some { 0 < length table.old }
@@ -266,8 +270,8 @@ pub(crate) fn least_without(
     requires held { IsHeld rows.now.present.items own }
     requires colour { holds turn.now.colour rows.now.present.items ≡ true }
     requires takes { MayTake turn.now.colour own }
-    requires alone { AreNear 20500000000000 turn.now.alone.now }
-    requires beside { AreNear 40980000000000 turn.now.beside.now }
+    requires alone { AreNear row_limit turn.now.alone.now }
+    requires beside { AreNear table_limit turn.now.beside.now }
     requires same { length turn.now.alone.now ≡ rows.now.width }
     requires wide { length turn.now.beside.now ≡ rows.now.width }
     requires some { 0 < length table.old }
@@ -327,7 +331,8 @@ pub(crate) fn least_new(rows: &Rows, runs: &Runs, table: &mut [i64], charges: &[
         rows.put_beside(table, c, runs.run(c), None);
         least = least.min(least_above(charges, table));
     }
-    if 2_305_843_009_213_693_952 < least {
+    let far = -(NOTHING / 2);
+    if far < least {
         None
     } else {
         Some(least)

@@ -10,6 +10,8 @@ ghost use Rattle.set_minima.specs.Cells.{cell, nothing, found, IsNear, AreNear, 
 ghost use Rattle.colour_tables.specs.Entries.{entry};
 ghost use Rattle.colour_tables.specs.Colours.{but_for, of_colour_but};
 ghost use Rattle.colour_tables.specs.Items.{IsRun, AreSmall, let_in, places};
+ghost use Rattle.mill_model.specs.declared.prices.TheConstants.{MAX_PRICE};
+ghost use Rattle.mill_model.specs.Limits.{all_prices};
 
 use crate::items::Item;
 
@@ -20,9 +22,9 @@ pub(crate) const NOTHING: i64 = -4_611_686_018_427_387_904;
 pub(crate) fn best_of(here: i64, below: i64, price: i64) -> i64
     requires here { IsNear (2 ^ 60) here }
     requires below { IsNear (2 ^ 59) below }
-    requires price { IsSmall 20000000000 price }
+    requires price { IsSmall MAX_PRICE price }
     ensures is { found result ≡ better (found here) (with_price price (found below)) }
-    ensures near { (n : ℕ) → IsNear n here → IsNear n below → IsNear (n + 20000000000) result }
+    ensures near { (n : ℕ) → IsNear n here → IsNear n below → IsNear (n + MAX_PRICE) result }
 {
     here.max(below + price)
 }
@@ -33,12 +35,12 @@ fn add_four(table: &mut [i64], at: usize, weight: usize, price: i64)
     requires above { weight ≤ at }
     requires inside { at + 4 ≤ length table.old }
     requires near { (l : ℕ) → l < at + 4 → IsNear (2 ^ 59) (entry table.old l) }
-    requires price { IsSmall 20000000000 price }
+    requires price { IsSmall MAX_PRICE price }
     ensures cells { (l : ℕ) → at ≤ l → l < at + 4 → cell table.new l ≡
         better (cell table.old l) (with_price price (cell table.old (l - weight))) }
     ensures others { (l : ℕ) → l < at ⊎ at + 4 ≤ l → entry table.new l ≡ entry table.old l }
     ensures near { (n : ℕ) → ((l : ℕ) → l < at + 4 → IsNear n (entry table.old l)) → (l : ℕ) →
-        at ≤ l → l < at + 4 → IsNear (n + 20000000000) (entry table.new l) }
+        at ≤ l → l < at + 4 → IsNear (n + MAX_PRICE) (entry table.new l) }
 {
     let low = at - weight;
     let x0 = best_of(table[at], table[low], price);
@@ -55,12 +57,12 @@ fn add_four(table: &mut [i64], at: usize, weight: usize, price: i64)
 fn add_tail(table: &mut [i64], weight: usize, price: i64)
     requires weight { 0 < weight }
     requires near { AreNear (2 ^ 59) table.old }
-    requires price { IsSmall 20000000000 price }
+    requires price { IsSmall MAX_PRICE price }
     ensures cells { (l : ℕ) → l < length table.old → cell table.new l ≡
         cond (leb weight l)
         (better (cell table.old l) (with_price price (cell table.old (l - weight))))
         (cell table.old l) }
-    ensures near { (n : ℕ) → AreNear n table.old → AreNear (n + 20000000000) table.new }
+    ensures near { (n : ℕ) → AreNear n table.old → AreNear (n + MAX_PRICE) table.new }
 {
     for l in (weight..table.len()).rev() {
         table[l] = best_of(table[l], table[l - weight], price);
@@ -71,12 +73,12 @@ fn add_tail(table: &mut [i64], weight: usize, price: i64)
 pub(crate) fn add(table: &mut [i64], weight: usize, price: i64)
     requires weight { 0 < weight }
     requires near { AreNear (2 ^ 59) table.old }
-    requires price { IsSmall 20000000000 price }
+    requires price { IsSmall MAX_PRICE price }
     ensures cells { (l : ℕ) → l < length table.old → cell table.new l ≡
         cond (leb weight l)
         (better (cell table.old l) (with_price price (cell table.old (l - weight))))
         (cell table.old l) }
-    ensures near { (n : ℕ) → AreNear n table.old → AreNear (n + 20000000000) table.new }
+    ensures near { (n : ℕ) → AreNear n table.old → AreNear (n + MAX_PRICE) table.new }
 {
     let len = table.len();
     if weight <= len {
@@ -124,7 +126,7 @@ fn consider(table: &mut [i64], run: &[Item], t: usize, skip: Option<usize>)
         (cell table.old) →
         IsTable (let_in before run.now skip (t + 1)) own k rest prices (length table.old)
         (cell table.new) }
-    ensures near { (n : ℕ) → AreNear n table.old → AreNear (n + 20000000000) table.new }
+    ensures near { (n : ℕ) → AreNear n table.old → AreNear (n + MAX_PRICE) table.new }
 {
     let item = run[t];
     if is_let_in(item.place, skip) {
@@ -143,7 +145,7 @@ pub(crate) fn add_run(table: &mut [i64], run: &[Item], skip: Option<usize>)
         IsTable before own k rest prices (length table.old) (cell table.old) →
         IsTable (let_in before run.now skip (length run.now)) own k rest prices
         (length table.old) (cell table.new) }
-    ensures near { (n : ℕ) → AreNear n table.old → AreNear (n + 20480000000000) table.new }
+    ensures near { (n : ℕ) → AreNear n table.old → AreNear (n + all_prices) table.new }
 {
     for t in 0..run.len() {
         consider(table, run, t, skip);
@@ -158,7 +160,7 @@ pub(crate) fn fill_run(table: &mut [i64], run: &[Item], skip: Option<usize>)
         IsRun rest prices c run.now →
         IsTable (of_colour_but rest c skip) (c ∷ []) 1 rest prices (length table.old)
         (cell table.new) }
-    ensures near { AreNear 20480000000000 table.new }
+    ensures near { AreNear all_prices table.new }
 {
     clear(table);
     add_run(table, run, skip);

@@ -33,7 +33,7 @@ fn numbers(alloc: Global, count: usize) -> Result<Vec<usize>, OutOfMemory>
 
 /// Room for the rows of some colours, with nothing in them yet.
 fn empty_rows(alloc: Global, count: usize, width: usize) -> Result<Rows, OutOfMemory>
-    requires few { count ≤ 1024 }
+    requires few { count ≤ MAX_ORDERS }
     requires wide { 0 < width }
     requires narrow { width ≤ 20001 }
     ensures sized { IfOk result (λ rows. IsSized rows) }

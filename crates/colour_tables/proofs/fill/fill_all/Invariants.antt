@@ -8,6 +8,7 @@ use Rattle.colour_tables.specs.Threes.{row_entry, column, three}
 use Rattle.colour_tables.specs.Colours.{of_colour}
 use Rattle.colour_tables.specs.Owned.{AreRuns}
 use Rattle.colour_tables.proofs.fill.fill_all.Given as goal
+use Rattle.colour_tables.specs.Entries.{row_limit}
 
 abbrev pub invariant-loop-t : goal.invariant-loop-t
 invariant-loop-t l = record {
@@ -21,5 +22,5 @@ invariant-loop-t l = record {
       (k : ℕ) → 0 < k → k < length l.fn.best → column l.best l.second l.third k ≡
       three (row_entry l.rows (length l.fn.best) k) (take l.t l.present);
   first : entry l.best 0 ≡ pos 0;
-  near : AreNear 20500000000000 l.rows;
+  near : AreNear row_limit l.rows;
 }

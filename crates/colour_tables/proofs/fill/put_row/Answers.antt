@@ -12,6 +12,8 @@ use Rattle.set_minima.proofs.WholeTables.{table-allowed}
 use Rattle.colour_tables.proofs.RunsLetIn.{none-skipped}
 use Rattle.colour_tables.proofs.fill.put_row.Goals as goal
 use borrow.Rule.Slice.PartMut.{put_mid}
+use Rattle.mill_model.specs.Limits.{all_prices}
+use Rattle.colour_tables.specs.Entries.{row_limit}
 
 room : (c : goal.After-rows-1) → (c.args.c * c.args.width + c.args.width) - c.args.c * c.args.width
     ≡ c.args.width
@@ -59,6 +61,6 @@ returns-clause-other c i h = outside c i h
 
 pub returns-clause-near : goal.returns-clause-near
 returns-clause-near c h =
-    rows-near 20500000000000 c.args.width c.args.c c.args.rows.now _ c.fill_run.new.table h
-    (λ l. near-wider 20480000000000 20500000000000 (entry c.fill_run.new.table l) (omega arith)
+    rows-near row_limit c.args.width c.args.c c.args.rows.now _ c.fill_run.new.table h
+    (λ l. near-wider all_prices row_limit (entry c.fill_run.new.table l) (omega arith)
     (c.fill_run.ensures.near l)) (inside c) (outside c)

@@ -6,6 +6,8 @@ use Rattle.set_minima.proofs.Gains.{gain-more}
 use Rattle.set_minima.specs.Cells.{cell, found}
 use Rattle.colour_tables.proofs.LeastNumbers.{found-least, less-fits}
 use Rattle.colour_tables.proofs.gain.least.Goals as goal
+use Rattle.mill_model.specs.declared.prices.TheConstants.{MAX_PRICE}
+use Rattle.colour_tables.specs.Entries.{table_limit}
 
 pub loop-l-preserved : goal.loop-l-preserved
 loop-l-preserved c allowed own k rest prices charge base charged p =
@@ -22,7 +24,7 @@ loop-l-preserved c allowed own k rest prices charge base charged p =
     let e = simp to_z-of_z at c.min-least.ensures.value in
     let s : l + 1 ≡ suc l = omega arith in
     let f = ap (λ z. found (neg_ℤ z)) e
-    ∙ found-least 200000000000000000 20000000000 least x t (omega arith) (c.requires.near l)
+    ∙ found-least table_limit MAX_PRICE least x t (omega arith) (c.requires.near l)
     (c.requires.small l) in
     simp to_z-of_z (subst (λ z. IsTop (Packed allowed own k rest 0 z)
     (gain charge base rest prices) (found (neg_ℤ c.min-least.result))) (sym s)

@@ -58,8 +58,8 @@ loop-t-preserved c rest prices name charge largest rows runs room charged =
     (subst (λ z. IsTop (Joins all_places 1 largest 0 (name z ∷ []) 2 rest)
     (gain charge 0 rest prices) (found (neg_ℤ c.least_above.result))) e joins)))
 
-pub returns-then-least-gt2305843009213693952 : goal.returns-then-least-gt2305843009213693952
-returns-then-least-gt2305843009213693952 c = record {
+pub returns-then-far-least : goal.returns-then-far-least
+returns-then-far-least c = record {
   is = λ rest prices name charge largest rows runs room charged.
       let e : take c.loop-t.t c.args.rows.now.present.items ≡ c.args.rows.now.present.items =
       take_all c.loop-t.t c.args.rows.now.present.items (search rules) in
@@ -68,11 +68,11 @@ returns-then-least-gt2305843009213693952 c = record {
       (subst (λ z. IsTop (MakesSome rest name largest z) (gain charge 0 rest prices)
       (found (neg_ℤ (to_z w64 c.loop-t.least-bits)))) e
       (c.loop-t.invariant rest prices name charge largest rows runs room charged))
-      ∙ least-none (to_z w64 c.loop-t.least-bits) c.if-least-gt2305843009213693952.true);
+      ∙ least-none (to_z w64 c.loop-t.least-bits) c.if-far-least.true);
 }
 
-pub returns-else-least-gt2305843009213693952 : goal.returns-else-least-gt2305843009213693952
-returns-else-least-gt2305843009213693952 c = record {
+pub returns-else-far-least : goal.returns-else-far-least
+returns-else-far-least c = record {
   is = λ rest prices name charge largest rows runs room charged.
       let e : take c.loop-t.t c.args.rows.now.present.items ≡ c.args.rows.now.present.items =
       take_all c.loop-t.t c.args.rows.now.present.items (search rules) in
@@ -81,5 +81,5 @@ returns-else-least-gt2305843009213693952 c = record {
       (subst (λ z. IsTop (MakesSome rest name largest z) (gain charge 0 rest prices)
       (found (neg_ℤ (to_z w64 c.loop-t.least-bits)))) e
       (c.loop-t.invariant rest prices name charge largest rows runs room charged))
-      ∙ least-some (to_z w64 c.loop-t.least-bits) c.if-least-gt2305843009213693952.false);
+      ∙ least-some (to_z w64 c.loop-t.least-bits) c.if-far-least.false);
 }

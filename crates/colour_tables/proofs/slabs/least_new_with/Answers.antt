@@ -4,10 +4,11 @@ use Rattle.set_minima.specs.Joins.{all_but}
 use Rattle.set_minima.proofs.CellNumbers.{near-wider}
 use Rattle.colour_tables.proofs.SlacksFromTables.{slack-new-with}
 use Rattle.colour_tables.proofs.slabs.least_new_with.Goals as goal
+use Rattle.colour_tables.specs.Entries.{table_limit}
 
 pub least_front-requires-clause-near : goal.least_front-requires-clause-near
 least_front-requires-clause-near c l =
-    near-wider 40980000000000 200000000000000000 (get_or c.args.beside.now l (pos 0)) (omega arith)
+    near-wider table_limit table_limit (get_or c.args.beside.now l (pos 0)) (omega arith)
     (c.requires.near l)
 
 pub returns : goal.returns

@@ -4,10 +4,11 @@ use Rattle.set_minima.proofs.CellNumbers.{near-wider}
 use Rattle.colour_tables.proofs.OwnTables.{none-table}
 use Rattle.colour_tables.proofs.SlacksFromTables.{least-over}
 use Rattle.colour_tables.proofs.slabs.least_of_none.Goals as goal
+use Rattle.colour_tables.specs.Entries.{table_limit}
 
 pub least-requires-clause-near : goal.least-requires-clause-near
 least-requires-clause-near c l =
-    near-wider 0 200000000000000000 (get_or c.clear.new.table l (pos 0)) (omega arith)
+    near-wider 0 table_limit (get_or c.clear.new.table l (pos 0)) (omega arith)
     (c.clear.ensures.near l)
 
 pub returns : goal.returns

@@ -11,10 +11,11 @@ use Rattle.colour_tables.proofs.GreatestBut.{best-near}
 use Rattle.colour_tables.proofs.OwnTables.{bare-table, row-table, row-cells, near-large}
 use Rattle.colour_tables.proofs.SlacksFromTables.{least-top, slack-on}
 use Rattle.colour_tables.proofs.slabs.least_on.Goals as goal
+use Rattle.colour_tables.specs.Entries.{table_limit}
 
 pub least_front-requires-clause-near : goal.least_front-requires-clause-near
 least_front-requires-clause-near c =
-    subst (λ xs. AreNear 200000000000000000 xs) (sym c.deref.ensures.value)
+    subst (λ xs. AreNear table_limit xs) (sym c.deref.ensures.value)
     (near-large c.args.rows.now.best.items (best-near c.args.rows.now c.requires.shaped))
 
 pub run-requires-in-Two : goal.run-requires-in-Two

@@ -4,13 +4,14 @@ use Rattle.std.proofs.lemmas.List.{length-take-le}
 use Rattle.set_minima.proofs.CellNumbers.{near-wider}
 use Rattle.colour_tables.proofs.FourWritten.{more-done, more-old, more-near, last-cells, last-near}
 use Rattle.colour_tables.proofs.table.add.Goals as goal
+use Rattle.mill_model.specs.declared.prices.TheConstants.{MAX_PRICE}
 
 pub loop-i-init : goal.loop-i-init
 loop-i-init c = record {
   done = λ k a b. absurd (omega arith);
   old = λ k b. refl;
   near = λ n h l.
-      near-wider n (n + 20000000000) (get_or c.args.table.now l (pos 0)) (omega arith) (h l);
+      near-wider n (n + MAX_PRICE) (get_or c.args.table.now l (pos 0)) (omega arith) (h l);
 }
 
 pub loop-i-preserved : goal.loop-i-preserved

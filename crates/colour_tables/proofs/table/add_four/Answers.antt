@@ -5,6 +5,7 @@ use Rattle.set_minima.specs.Packs.{better, with_price}
 use Rattle.set_minima.specs.Cells.{cell, found, IsNear}
 use Rattle.colour_tables.proofs.FourWritten.{four-each, four-other}
 use Rattle.colour_tables.proofs.table.add_four.Goals as goal
+use Rattle.mill_model.specs.declared.prices.TheConstants.{MAX_PRICE}
 
 pub returns-clause-others : goal.returns-clause-others
 returns-clause-others c l o =
@@ -79,7 +80,7 @@ returns-clause-near c n h l a b =
     let e2 = simp to_z-of_z at c.best_of-x2.ensures.near in
     let e3 = simp to_z-of_z at c.best_of-x3.ensures.near in
     simp to_z-of_z (four-each c.args.table.now c.args.at c.best_of-x0.result c.best_of-x1.result
-    c.best_of-x2.result c.best_of-x3.result c.requires.inside (λ i x. IsNear (n + 20000000000) x)
+    c.best_of-x2.result c.best_of-x3.result c.requires.inside (λ i x. IsNear (n + MAX_PRICE) x)
     (e0 n (h c.args.at (omega arith)) (h (c.args.at - c.args.weight) (omega arith)))
     (e1 n (h (c.args.at + 1) (omega arith)) (h (c.args.at - c.args.weight + 1) (omega arith)))
     (e2 n (h (c.args.at + 2) (omega arith)) (h (c.args.at - c.args.weight + 2) (omega arith)))

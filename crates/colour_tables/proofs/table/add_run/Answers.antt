@@ -6,10 +6,12 @@ use Rattle.set_minima.proofs.CellNumbers.{near-wider}
 use Rattle.colour_tables.proofs.RunsLetIn.{first-let_in}
 use Rattle.set_minima.proofs.WholeTables.{table-allowed}
 use Rattle.colour_tables.proofs.table.add_run.Goals as goal
+use Rattle.mill_model.specs.declared.prices.TheConstants.{MAX_PRICE}
+use Rattle.mill_model.specs.Limits.{all_prices}
 
 pub consider-requires-clause-near : goal.consider-requires-clause-near
 consider-requires-clause-near c l =
-    near-wider (288230376151711744 + c.loop-t.t * 20000000000) 576460752303423488
+    near-wider (288230376151711744 + c.loop-t.t * MAX_PRICE) 576460752303423488
     (get_or c.loop-t.table l (pos 0)) (omega (arith, c.requires.small.few, c.loop-t-test.true))
     (c.loop-t.invariant.near 288230376151711744 c.requires.near l)
 
@@ -20,7 +22,7 @@ loop-t-init c = record {
       (length c.args.table.now) (cell c.args.table.now)
       (λ i b. first-let_in before c.args.run.now c.args.skip i) h;
   near = λ n h l.
-      near-wider n (n + 0 * 20000000000) (get_or c.args.table.now l (pos 0)) (omega arith) (h l);
+      near-wider n (n + 0 * MAX_PRICE) (get_or c.args.table.now l (pos 0)) (omega arith) (h l);
 }
 
 pub loop-t-preserved : goal.loop-t-preserved
@@ -34,10 +36,10 @@ loop-t-preserved c = record {
       (cell c.loop-t.table)) (sym w)
       (c.loop-t.invariant.best rest prices colour is before own k paid new h)));
   near = λ n h l.
-      near-wider (n + c.loop-t.t * 20000000000 + 20000000000)
-      (n + (c.loop-t.t + 1) * 20000000000) (get_or c.consider.new.table l (pos 0))
+      near-wider (n + c.loop-t.t * MAX_PRICE + MAX_PRICE)
+      (n + (c.loop-t.t + 1) * MAX_PRICE) (get_or c.consider.new.table l (pos 0))
       (omega arith)
-      (c.consider.ensures.near (n + c.loop-t.t * 20000000000) (c.loop-t.invariant.near n h) l);
+      (c.consider.ensures.near (n + c.loop-t.t * MAX_PRICE) (c.loop-t.invariant.near n h) l);
 }
 
 pub returns-clause-best : goal.returns-clause-best
@@ -53,7 +55,7 @@ returns-clause-best c rest prices colour is before own k paid new h =
 
 pub returns-clause-near : goal.returns-clause-near
 returns-clause-near c n h l =
-    near-wider (n + c.loop-t.t * 20000000000) (n + 20480000000000)
+    near-wider (n + c.loop-t.t * MAX_PRICE) (n + all_prices)
     (get_or c.loop-t.table l (pos 0))
     (omega (arith, c.requires.small.few, c.loop-t.auto.t-end))
     (c.loop-t.invariant.near n h l)

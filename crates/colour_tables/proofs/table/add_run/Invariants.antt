@@ -5,6 +5,7 @@ use Rattle.set_minima.specs.Packs.{IsTable}
 use Rattle.set_minima.specs.Cells.{cell, AreNear}
 use Rattle.colour_tables.specs.Items.{IsRun, let_in, places}
 use Rattle.colour_tables.proofs.table.add_run.Given as goal
+use Rattle.mill_model.specs.declared.prices.TheConstants.{MAX_PRICE}
 
 abbrev pub invariant-loop-t : goal.invariant-loop-t
 invariant-loop-t l = record {
@@ -15,5 +16,5 @@ invariant-loop-t l = record {
       IsTable before own k rest prices (length l.initial.table) (cell l.initial.table) →
       IsTable (let_in before l.run l.skip l.t) own k rest prices (length l.initial.table)
       (cell l.table);
-  near : (n : ℕ) → AreNear n l.initial.table → AreNear (n + l.t * 20000000000) l.table;
+  near : (n : ℕ) → AreNear n l.initial.table → AreNear (n + l.t * MAX_PRICE) l.table;
 }

@@ -5,11 +5,12 @@ use Rattle.set_minima.specs.Cells.{found}
 use Rattle.set_minima.proofs.CellNumbers.{near-wider}
 use Rattle.set_minima.proofs.OneCell.{entry-done, entry-old, entry-near, light-stays}
 use Rattle.colour_tables.proofs.table.add_tail.Goals as goal
+use Rattle.mill_model.specs.declared.prices.TheConstants.{MAX_PRICE}
 
 pub best_of-requires-clause-here : goal.best_of-requires-clause-here
 best_of-requires-clause-here c =
     let f : SFits w64 (get_or c.loop-l.table (c.loop-l.l - 1) (pos 0)) = search rules in
-    simp to_z-of_z (near-wider (576460752303423488 + 20000000000) 1152921504606846976
+    simp to_z-of_z (near-wider (576460752303423488 + MAX_PRICE) 1152921504606846976
     (get_or c.loop-l.table (c.loop-l.l - 1) (pos 0)) (omega arith)
     (c.loop-l.invariant.near 576460752303423488 c.requires.near (c.loop-l.l - 1)))
 
@@ -26,7 +27,7 @@ loop-l-init c = record {
   done = λ k a b. absurd (omega arith);
   old = λ k b. refl;
   near = λ n h l.
-      near-wider n (n + 20000000000) (get_or c.args.table.now l (pos 0)) (omega arith) (h l);
+      near-wider n (n + MAX_PRICE) (get_or c.args.table.now l (pos 0)) (omega arith) (h l);
 }
 
 pub returns-clause-cells : goal.returns-clause-cells
@@ -59,6 +60,6 @@ loop-l-preserved c =
           (omega arith) old;
       near = λ n h.
           entry-near c.args.weight c.args.price c.args.table.now c.loop-l.table at
-          c.best_of.result (omega arith) old (n + 20000000000) (c.loop-l.invariant.near n h)
+          c.best_of.result (omega arith) old (n + MAX_PRICE) (c.loop-l.invariant.near n h)
           (near n (rw (old at (omega arith)) (h at)) (rw (old low (omega arith)) (h low)));
     })

@@ -2,6 +2,7 @@ use Rattle.std.proofs.Common.{◌≡◌, ℕ, ◌+◌, ◌-◌, ◌<◌, ◌≤�
 use Rattle.set_minima.specs.Packs.{better, with_price}
 use Rattle.set_minima.specs.Cells.{cell, AreNear}
 use Rattle.colour_tables.proofs.table.add_tail.Given as goal
+use Rattle.mill_model.specs.declared.prices.TheConstants.{MAX_PRICE}
 
 abbrev pub invariant-loop-l : goal.invariant-loop-l
 invariant-loop-l l = record {
@@ -12,5 +13,5 @@ invariant-loop-l l = record {
       (cell l.initial.table k);
   old : (k : ℕ) → k < l.l →
       slice_index_or l.table k (pos 0) ≡ slice_index_or l.initial.table k (pos 0);
-  near : (n : ℕ) → AreNear n l.initial.table → AreNear (n + 20000000000) l.table;
+  near : (n : ℕ) → AreNear n l.initial.table → AreNear (n + MAX_PRICE) l.table;
 }

@@ -7,6 +7,7 @@ use Rattle.set_minima.specs.Cells.{found, IsNear}
 use Rattle.set_minima.proofs.CellNumbers.{found-max, found-plus, near-max, near-plus, near-fits}
 use Rattle.set_minima.proofs.CellNumbers.{near-wider, fits-64}
 use Rattle.colour_tables.proofs.table.best_of.Goals as goal
+use Rattle.mill_model.specs.declared.prices.TheConstants.{MAX_PRICE}
 
 -- the sum has 64 bits, so the greater is the greater of the numbers
 value : (c : goal.After-max) → c.max.result ≡ int_max c.args.here (c.args.below +ℤ c.args.price)
@@ -28,13 +29,13 @@ returns-clause-is c =
     let f : SFits w64 c.max.result = search rules in
     simp to_z-of_z (ap found (value c) ∙ found-max c.args.here (c.args.below +ℤ c.args.price)
     ∙ ap (better (found c.args.here))
-    (found-plus 576460752303423488 20000000000 c.args.below c.args.price (omega arith)
+    (found-plus 576460752303423488 MAX_PRICE c.args.below c.args.price (omega arith)
     c.requires.below c.requires.price))
 
 pub returns-clause-near : goal.returns-clause-near
 returns-clause-near c n h k =
     let f : SFits w64 c.max.result = search rules in
-    simp to_z-of_z (subst (λ x. IsNear (n + 20000000000) x) (sym (value c))
-    (near-max (n + 20000000000) c.args.here (c.args.below +ℤ c.args.price)
-    (near-wider n (n + 20000000000) c.args.here (omega arith) h)
-    (near-plus n 20000000000 c.args.below c.args.price k c.requires.price)))
+    simp to_z-of_z (subst (λ x. IsNear (n + MAX_PRICE) x) (sym (value c))
+    (near-max (n + MAX_PRICE) c.args.here (c.args.below +ℤ c.args.price)
+    (near-wider n (n + MAX_PRICE) c.args.here (omega arith) h)
+    (near-plus n MAX_PRICE c.args.below c.args.price k c.requires.price)))

@@ -4,6 +4,7 @@ use Rattle.colour_tables.specs.Items.{item_at}
 use Rattle.set_minima.proofs.CellNumbers.{near-wider}
 use Rattle.colour_tables.proofs.RunsLetIn.{item-adds, item-skipped}
 use Rattle.colour_tables.proofs.table.consider.Goals as goal
+use Rattle.mill_model.specs.declared.prices.TheConstants.{MAX_PRICE}
 
 pub returns-then-is_let_in-clause-best : goal.returns-then-is_let_in-clause-best
 returns-then-is_let_in-clause-best c rest prices colour is before own k paid new h =
@@ -19,4 +20,4 @@ returns-else-is_let_in-clause-best c rest prices colour is before own k paid new
 
 pub returns-else-is_let_in-clause-near : goal.returns-else-is_let_in-clause-near
 returns-else-is_let_in-clause-near c n h l =
-    near-wider n (n + 20000000000) (get_or c.args.table.now l (pos 0)) (omega arith) (h l)
+    near-wider n (n + MAX_PRICE) (get_or c.args.table.now l (pos 0)) (omega arith) (h l)

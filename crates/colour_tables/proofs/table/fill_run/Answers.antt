@@ -9,6 +9,7 @@ use Rattle.set_minima.proofs.CellNumbers.{near-wider}
 use Rattle.set_minima.proofs.WholeTables.{table-allowed}
 use Rattle.colour_tables.proofs.RunsLetIn.{run-let_in, self-holds}
 use Rattle.colour_tables.proofs.table.fill_run.Goals as goal
+use Rattle.mill_model.specs.Limits.{all_prices}
 
 pub returns-clause-best : goal.returns-clause-best
 returns-clause-best c rest prices colour is =
@@ -34,5 +35,5 @@ returns-clause-best c rest prices colour is =
 
 pub returns-clause-near : goal.returns-clause-near
 returns-clause-near c l =
-    near-wider (0 + 20480000000000) 20480000000000 (get_or c.add_run.new.table l (pos 0))
+    near-wider (0 + all_prices) all_prices (get_or c.add_run.new.table l (pos 0))
     (omega arith) (c.add_run.ensures.near 0 c.clear.ensures.near l)

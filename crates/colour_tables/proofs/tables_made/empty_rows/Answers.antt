@@ -2,6 +2,7 @@ use Rattle.std.proofs.Common.{◌≡◌, ◌*◌, length, replicate, pos, sym, s
 use Rattle.colour_tables.specs.Threes.{AreWithin}
 use Rattle.colour_tables.proofs.RowsLaidOut.{within-below, near-zeros}
 use Rattle.colour_tables.proofs.tables_made.empty_rows.Goals as goal
+use Rattle.colour_tables.specs.Entries.{row_limit}
 
 pub returns-clause-sized : goal.returns-clause-sized
 returns-clause-sized c =
@@ -18,5 +19,5 @@ returns-clause-sized c =
       best = search rules;
       second = search rules;
       third = search rules;
-      near = near-zeros 20500000000000 (c.args.count * c.args.width) rows zeros;
+      near = near-zeros row_limit (c.args.count * c.args.width) rows zeros;
     }

@@ -4,6 +4,7 @@ use Rattle.mill_model.specs.Charges.{charge_of}
 use Rattle.set_minima.specs.Cells.{IsSmall}
 use Rattle.colour_tables.proofs.RowsLaidOut.{each-push, all-small}
 use Rattle.colour_tables.proofs.tables_made.paid_charges.Goals as goal
+use Rattle.mill_model.specs.declared.prices.TheConstants.{MAX_PRICE}
 
 pub loop-load-preserved : goal.loop-load-preserved
 loop-load-preserved c =
@@ -19,7 +20,7 @@ loop-load-preserved c =
           c.loop-load.invariant.count c.loop-load.invariant.is
           (ap (λ n. pos (60 * n)) c.charge.ensures.is);
       small =
-          each-push (λ k z. IsSmall 20000000000 z) c.loop-load.paid.items c.push.new.self.items
+          each-push (λ k z. IsSmall MAX_PRICE z) c.loop-load.paid.items c.push.new.self.items
           (pos (60 * c.charge.result)) c.loop-load.load e c.loop-load.invariant.count
           c.loop-load.invariant.small (
             omega (arith, ints, c.charge.ensures.limit),

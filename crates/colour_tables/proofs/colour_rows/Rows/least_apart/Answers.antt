@@ -3,10 +3,11 @@ use Rattle.set_minima.specs.Joins.{all_but}
 use Rattle.set_minima.proofs.CellNumbers.{near-wider}
 use Rattle.colour_tables.proofs.SlacksFromTables.{least-over}
 use Rattle.colour_tables.proofs.colour_rows.Rows.least_apart.Goals as goal
+use Rattle.colour_tables.specs.Entries.{table_limit}
 
 pub least-requires-clause-near : goal.least-requires-clause-near
 least-requires-clause-near c l =
-    near-wider 40980000000000 200000000000000000 (get_or c.put_apart.new.table l (pos 0)) (omega
+    near-wider table_limit table_limit (get_or c.put_apart.new.table l (pos 0)) (omega
     arith)
     (c.put_apart.ensures.near l)
 

@@ -5,10 +5,12 @@ use Rattle.set_minima.proofs.CellNumbers.{near-wider}
 use Rattle.colour_tables.proofs.ColoursPaid.{paid-table}
 use Rattle.colour_tables.proofs.SlacksFromTables.{least-over}
 use Rattle.colour_tables.proofs.colour_rows.Rows.least_bare.Goals as goal
+use Rattle.colour_tables.specs.Entries.{row_limit}
+use Rattle.colour_tables.specs.Entries.{table_limit}
 
 pub least-requires-clause-near : goal.least-requires-clause-near
 least-requires-clause-near c l =
-    near-wider 20500000000000 200000000000000000 (get_or c.put_bare.new.table l (pos 0)) (omega
+    near-wider row_limit table_limit (get_or c.put_bare.new.table l (pos 0)) (omega
     arith)
     (c.put_bare.ensures.near l)
 

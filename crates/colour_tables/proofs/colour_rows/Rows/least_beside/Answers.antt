@@ -3,10 +3,11 @@ use Rattle.colour_tables.specs.Colours.{but_for}
 use Rattle.set_minima.proofs.CellNumbers.{near-wider}
 use Rattle.colour_tables.proofs.SlacksFromTables.{least-over}
 use Rattle.colour_tables.proofs.colour_rows.Rows.least_beside.Goals as goal
+use Rattle.colour_tables.specs.Entries.{table_limit}
 
 pub least-requires-clause-near : goal.least-requires-clause-near
 least-requires-clause-near c l =
-    near-wider 40980000000000 200000000000000000 (get_or c.put_beside.new.table l (pos 0)) (omega
+    near-wider table_limit table_limit (get_or c.put_beside.new.table l (pos 0)) (omega
     arith)
     (c.put_beside.ensures.near l)
 

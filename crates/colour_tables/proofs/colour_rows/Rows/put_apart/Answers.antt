@@ -8,6 +8,9 @@ use Rattle.colour_tables.proofs.ColoursPaid.{paid-table}
 use Rattle.colour_tables.proofs.RunsLetIn.{run-table, self-holds}
 use Rattle.colour_tables.proofs.AllowedByTables.{two-without, two-all}
 use Rattle.colour_tables.proofs.colour_rows.Rows.put_apart.Goals as goal
+use Rattle.mill_model.specs.Limits.{all_prices}
+use Rattle.colour_tables.specs.Entries.{row_limit}
+use Rattle.colour_tables.specs.Entries.{table_limit}
 
 pub returns-clause-is : goal.returns-clause-is
 returns-clause-is c rest prices name j rows run here at alone =
@@ -31,6 +34,6 @@ returns-clause-is c rest prices name j rows run here at alone =
 
 pub returns-clause-near : goal.returns-clause-near
 returns-clause-near c l =
-    near-wider (20500000000000 + 20480000000000) 40980000000000
+    near-wider (row_limit + all_prices) table_limit
     (get_or c.add_run.new.table l (pos 0)) (omega arith)
-    (c.add_run.ensures.near 20500000000000 c.put_others_of_two.ensures.near l)
+    (c.add_run.ensures.near row_limit c.put_others_of_two.ensures.near l)

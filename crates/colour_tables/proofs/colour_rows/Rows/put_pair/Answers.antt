@@ -11,6 +11,9 @@ use Rattle.colour_tables.proofs.RunsLetIn.{run-table, self-holds}
 use Rattle.colour_tables.proofs.AllowedByTables.{pair-more, pair-less, row-without, row-own}
 use Rattle.colour_tables.proofs.AllowedByTables.{row-other, apart}
 use Rattle.colour_tables.proofs.colour_rows.Rows.put_pair.Goals as goal
+use Rattle.mill_model.specs.Limits.{all_prices}
+use Rattle.colour_tables.specs.Entries.{row_limit}
+use Rattle.colour_tables.specs.Entries.{table_limit}
 
 pub returns-clause-is : goal.returns-clause-is
 returns-clause-is c rest prices name colour own rows run other at two h k =
@@ -46,8 +49,8 @@ returns-clause-is c rest prices name colour own rows run other at two h k =
 
 pub returns-clause-near : goal.returns-clause-near
 returns-clause-near c l =
-    near-wider (20500000000000 + 20480000000000) 40980000000000
+    near-wider (row_limit + all_prices) table_limit
     (get_or c.add_run.new.table l (pos 0)) (omega arith)
-    (c.add_run.ensures.near 20500000000000 (λ l. subst (λ xs. IsNear 20500000000000 (entry xs l))
+    (c.add_run.ensures.near row_limit (λ l. subst (λ xs. IsNear row_limit (entry xs l))
     (sym c.copy_from_slice.ensures.after)
-    (front-near 20500000000000 (length c.args.table.now) c.row.result.now c.row.ensures.near l)) l)
+    (front-near row_limit (length c.args.table.now) c.row.result.now c.row.ensures.near l)) l)

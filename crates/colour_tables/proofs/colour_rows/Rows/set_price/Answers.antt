@@ -9,6 +9,9 @@ use Rattle.set_minima.proofs.CellNumbers.{near-wider}
 use Rattle.colour_tables.proofs.FlatRows.{within-held}
 use Rattle.colour_tables.proofs.OneRowPriced.{new-row, rows-priced, shaped-made}
 use Rattle.colour_tables.proofs.colour_rows.Rows.set_price.Goals as goal
+use Rattle.mill_model.specs.declared.prices.TheConstants.{MAX_PRICE}
+use Rattle.mill_model.specs.Limits.{all_prices}
+use Rattle.colour_tables.specs.Entries.{row_limit}
 
 pub replace-requires-clause-here : goal.replace-requires-clause-here
 replace-requires-clause-here c =
@@ -38,11 +41,11 @@ other c =
     (subst (λ z. (i : ℕ) → i < c.args.c * z ⊎ c.args.c * z + z ≤ i →
     entry c.replace.new.rows i ≡ entry c.deref_mut.result.now i) (wide c) c.replace.ensures.other)
 
-added : (c : goal.After-self-4-1) → AreNear 20500000000000 c.add.new.table
+added : (c : goal.After-self-4-1) → AreNear row_limit c.add.new.table
 added c l =
-    near-wider (20480000000000 + 20000000000) 20500000000000
+    near-wider (all_prices + MAX_PRICE) row_limit
     (get_or c.add.new.table l (pos 0)) (omega arith)
-    (c.add.ensures.near 20480000000000 c.requires.alone l)
+    (c.add.ensures.near all_prices c.requires.alone l)
 
 now-rows : (c : goal.After-self-4-1) → (with_items c.args.self.now.rows c.replace.new.rows).items
     ≡ c.replace.new.rows

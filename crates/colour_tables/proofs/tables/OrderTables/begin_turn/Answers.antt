@@ -11,6 +11,8 @@ use Rattle.colour_tables.specs.PricedOrders.{PricedOrders}
 use Rattle.colour_tables.proofs.KnownColours.{absent}
 use Rattle.colour_tables.proofs.TurnTables.{turn-from}
 use Rattle.colour_tables.proofs.tables.OrderTables.begin_turn.Goals as goal
+use Rattle.mill_model.specs.Limits.{all_prices}
+use Rattle.colour_tables.specs.Entries.{table_limit}
 
 pub begin_turn-requires-clause-colour : goal.begin_turn-requires-clause-colour
 begin_turn-requires-clause-colour c =
@@ -55,8 +57,8 @@ returns-in-Some-clause-turn c =
           (c.in-Some.ensures.found c.in-Some.colour refl)));
       alone = ap length e ∙ n ∙ long;
       beside = ap length f ∙ m ∙ wide;
-      near = subst (λ xs. AreNear 20480000000000 xs) (sym e) c.begin_turn.ensures.alone;
-      around = subst (λ xs. AreNear 40980000000000 xs) (sym f) c.begin_turn.ensures.beside;
+      near = subst (λ xs. AreNear all_prices xs) (sym e) c.begin_turn.ensures.alone;
+      around = subst (λ xs. AreNear table_limit xs) (sym f) c.begin_turn.ensures.beside;
     })
 
 pub returns-in-None-clause-turn : goal.returns-in-None-clause-turn

@@ -1,9 +1,9 @@
 -- Where the order in its turn may not join a slab, no set of the slab holds it.
-use Rattle.std.proofs.Common.{ℕ, ◌+◌, ◌<◌, ◌≤◌, ◌≡◌, ◌⊎◌, Bool, true, false, ◌||◌, List, map}
+use Rattle.std.proofs.Common.{ℕ, ◌+◌, ◌<◌, ◌≤◌, ◌≡◌, Bool, true, false, List, map}
 use Rattle.std.proofs.Common.{length}
 use Rattle.std.proofs.Common.{get_or, set, eqb, eqb-true, eq-eqb, ne_eqb, leb, ltb, leb-true, ℤ}
 use Rattle.std.proofs.Common.{None, []}
-use Rattle.std.proofs.Common.{length-set, refl, sym, ap, ◌∙◌, subst, arith, inl, inr}
+use Rattle.std.proofs.Common.{length-set, refl, sym, ◌∙◌, subst, arith, inl, inr}
 use Rattle.list_laws.specs.Sets.{holds, different}
 use Rattle.mill_model.specs.Bounds.{least_new_with, least_on_with}
 use Rattle.mill_model.specs.declared.order.Order.{Order}
@@ -13,7 +13,7 @@ use Rattle.set_minima.specs.Joins.{IsSlab}
 use Rattle.set_minima.proofs.Holding.{with-none}
 use Rattle.set_minima.proofs.Least.{new-slab}
 use Rattle.colour_tables.specs.Leasts.{two_colours}
-use Rattle.colour_tables.specs.Threes.{but, once}
+use Rattle.colour_tables.specs.Threes.{once}
 use Rattle.colour_tables.specs.Owned.{IsHeld, IsOwn, MayTake}
 use Rattle.colour_tables.specs.declared.slab.Own.{Own}
 use Rattle.colour_tables.specs.declared.slab.Own.TheVariants.{Bare, Free, One, Two, Full}

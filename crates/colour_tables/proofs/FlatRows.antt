@@ -8,7 +8,8 @@ use Rattle.list_laws.specs.Sets.{holds}
 use Rattle.list_laws.proofs.Tests.{or-cases}
 use Rattle.list_laws.proofs.Tests.{and-left}
 use Rattle.list_laws.proofs.Tests.{clash}
-use Rattle.colour_tables.specs.Threes.{Three, IsSorted, insert, three, but, once, row_entry}
+use Rattle.colour_tables.specs.Threes.{IsSorted, insert, three, but, once, row_entry}
+use Rattle.colour_tables.specs.declared.tops.Three.{Three}
 use Rattle.colour_tables.specs.Threes.{AreWithin}
 use Rattle.colour_tables.proofs.ThreeGreatest.{three-front, three-same, three-sorted, but-holds}
 use Rattle.colour_tables.proofs.LoadsWritten.{set-same, set-other}

@@ -4,7 +4,8 @@ use Rattle.std.proofs.Common.{sym, subst, arith, inl, inr}
 use Rattle.std.proofs.lemmas.List.{get_or-set_same, get_or-set_other}
 use Rattle.std.proofs.lemmas.Bool.{cases_lt}
 use Rattle.colour_tables.specs.Entries.{entry}
-use Rattle.colour_tables.specs.Threes.{column, Three}
+use Rattle.colour_tables.specs.Threes.{column}
+use Rattle.colour_tables.specs.declared.tops.Three.{Three}
 
 pub set-same : (to : List ℤ) (l : ℕ) (v : ℤ) → l < length to → entry (set to l v) l ≡ v
 set-same to l v h = get_or-set_same to l v (pos 0) h

@@ -9,7 +9,8 @@ use Rattle.std.specs.Int.{int_max, int_min}
 use Rattle.list_laws.proofs.Tests.{either}
 use Rattle.set_minima.specs.Cells.{nothing, IsNear, AreNear}
 use Rattle.colour_tables.specs.Entries.{entry}
-use Rattle.colour_tables.specs.Threes.{Three, three, IsButOne, IsButTwo}
+use Rattle.colour_tables.specs.Threes.{three, IsButOne, IsButTwo}
+use Rattle.colour_tables.specs.declared.tops.Three.{Three}
 use Rattle.set_minima.proofs.CellNumbers.{near-max}
 
 min-is : (x y : ℤ) → (int_min x y ≡ x) ⊎ (int_min x y ≡ y)

@@ -1,6 +1,6 @@
 -- The sets that may make a new slab: the empty one, and those with some colour.
-use Rattle.std.proofs.Common.{ℕ, ◌+◌, ◌*◌, ◌<◌, ◌≤◌, ◌≡◌, Bool, true, false, List, [], ◌∷◌, length}
-use Rattle.std.proofs.Common.{map, take, get_or, ℤ, pos, ◌+ℤ◌, neg_ℤ, Some, None, eqb, eqb-true}
+use Rattle.std.proofs.Common.{ℕ, ◌+◌, ◌<◌, ◌≤◌, ◌≡◌, Bool, true, false, List, [], ◌∷◌, length}
+use Rattle.std.proofs.Common.{map, take, get_or, ℤ, pos, neg_ℤ, Some, None, eqb, eqb-true}
 use Rattle.std.proofs.Common.{eq-eqb, int_lt}
 use Rattle.std.proofs.Common.{refl, sym, ap, ◌∙◌, subst, arith, inl, inr}
 use Rattle.std.proofs.lemmas.Int.{ints}
@@ -8,25 +8,21 @@ use Rattle.std.specs.Int.{int_min, int_max}
 use Rattle.list_laws.specs.Sets.{holds, chosen}
 use Rattle.mill_model.specs.Slab.{load}
 use Rattle.mill_model.specs.Bounds.{least_new}
-use Rattle.mill_model.specs.Prices.{least_slack}
 use Rattle.mill_model.specs.declared.order.Order.{Order}
 use Rattle.list_laws.proofs.Tests.{or-cases, or-left, or-right}
 use Rattle.list_laws.proofs.Different.{holds-append}
-use Rattle.set_minima.specs.Packs.{IsTop, colours_in, colour_at, better}
-use Rattle.set_minima.specs.Joins.{gain, Joins, Packed, all_places, opposite, AreOrders}
+use Rattle.set_minima.specs.Packs.{IsTop, colours_in, colour_at}
+use Rattle.set_minima.specs.Joins.{gain, Joins, all_places, opposite, AreOrders}
 use Rattle.list_laws.proofs.Tests.{clash}
 use Rattle.set_minima.proofs.Tops.{none-some, top-same, top-union}
-use Rattle.set_minima.proofs.Gains.{gain-none, gain-more}
 use Rattle.set_minima.proofs.OneOrder.{few-less}
 use Rattle.set_minima.proofs.Places.{colour-place}
-use Rattle.set_minima.proofs.Least.{new-slab, new-is}
-use Rattle.set_minima.specs.Cells.{found, IsSmall}
-use Rattle.colour_tables.specs.Leasts.{IsLeast, MakesSome, two_colours}
+use Rattle.set_minima.proofs.Least.{new-is}
+use Rattle.set_minima.specs.Cells.{found}
+use Rattle.colour_tables.specs.Leasts.{MakesSome, two_colours}
 use Rattle.set_minima.proofs.CellNumbers.{found-max}
-use Rattle.colour_tables.proofs.ColoursUnited.{load-zero}
 use Rattle.colour_tables.proofs.ColoursPaid.{name-held}
 use Rattle.colour_tables.proofs.RowsFilled.{more}
-use Rattle.colour_tables.proofs.SlacksFromTables.{slack-on}
 
 turned-least : (a b : ℤ) → neg_ℤ (int_min a b) ≡ int_max (neg_ℤ a) (neg_ℤ b)
 turned-least a b = grind (arith, ints)

@@ -13,7 +13,8 @@ use Rattle.set_minima.specs.Joins.{all_places, all_but}
 use Rattle.set_minima.specs.Cells.{found, cell, AreNear}
 use Rattle.colour_tables.specs.Entries.{entry}
 use Rattle.set_minima.proofs.CellNumbers.{near-wider}
-use Rattle.colour_tables.specs.Threes.{Three, row_entry}
+use Rattle.colour_tables.specs.Threes.{row_entry}
+use Rattle.colour_tables.specs.declared.tops.Three.{Three}
 use Rattle.colour_tables.specs.Colours.{of_colour, of_colours, but_order}
 use Rattle.colour_tables.specs.Rowed.{IsShaped, AreRows}
 use Rattle.colour_tables.specs.declared.colour_rows.Rows.{Rows}

@@ -13,7 +13,8 @@ use Rattle.set_minima.specs.Packs.{IsTable, IsBest}
 use Rattle.list_laws.proofs.Tests.{clash}
 use Rattle.colour_tables.specs.Entries.{entry}
 use Rattle.set_minima.specs.Cells.{found}
-use Rattle.colour_tables.specs.Threes.{Three, three, insert, once, row_entry}
+use Rattle.colour_tables.specs.Threes.{three, insert, once, row_entry}
+use Rattle.colour_tables.specs.declared.tops.Three.{Three}
 use Rattle.colour_tables.specs.Colours.{of_colour}
 use Rattle.colour_tables.proofs.RunsLetIn.{not-true}
 use Rattle.colour_tables.proofs.ThreeGreatest.{three-last, three-same}

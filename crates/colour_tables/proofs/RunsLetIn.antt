@@ -1,5 +1,5 @@
 -- Runs of items: what one item more lets in, and what a whole run does.
-use Rattle.std.proofs.Common.{ℕ, zero, suc, ◌+◌, ◌<◌, ◌≤◌, ◌≡◌, ◌≢◌, ◌⊎◌, Bool, true, false, not}
+use Rattle.std.proofs.Common.{ℕ, zero, suc, ◌+◌, ◌<◌, ◌≡◌, ◌⊎◌, Bool, true, false, not}
 use Rattle.std.proofs.Common.{◌&&◌, ◌||◌, List, [], ◌∷◌, ◌++◌, length, get_or, take, eqb, eq-eqb}
 use Rattle.std.proofs.Common.{ne_eqb}
 use Rattle.std.proofs.Common.{eqb-true, ℤ, pos, Option, None, refl, sym, ap, ◌∙◌}

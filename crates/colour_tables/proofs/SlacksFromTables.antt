@@ -1,7 +1,7 @@
 -- From the least over a table to the least slacks of the definitions.
 use Rattle.std.proofs.Common.{ℕ, ◌+◌, ◌*◌, ◌<◌, ◌≤◌, ◌≡◌, Bool, true, false, List, [], ◌∷◌, length}
-use Rattle.std.proofs.Common.{get_or, set, ℤ, pos, ◌+ℤ◌, ◌-ℤ◌, neg_ℤ, ◌≤ℤ◌, Some, int_lt, eqb}
-use Rattle.std.proofs.Common.{eq-eqb, eqb-true, not}
+use Rattle.std.proofs.Common.{get_or, set, ℤ, pos, ◌+ℤ◌, ◌-ℤ◌, neg_ℤ, Some, int_lt, eqb}
+use Rattle.std.proofs.Common.{eq-eqb}
 use Rattle.std.proofs.Common.{refl, sym, ap, ◌∙◌, subst, arith, inl, inr, append-nil, length-set}
 use Rattle.std.proofs.lemmas.Int.{ints}
 use Rattle.std.proofs.lemmas.List.{get_or-set_same}
@@ -19,15 +19,13 @@ use Rattle.set_minima.specs.Joins.{with_colour}
 use Rattle.set_minima.proofs.Places.{in-set-below}
 use Rattle.list_laws.proofs.Tests.{clash}
 use Rattle.set_minima.proofs.Tops.{top-same}
-use Rattle.set_minima.proofs.Gains.{joins-top, gain-within}
+use Rattle.set_minima.proofs.Gains.{joins-top}
 use Rattle.set_minima.proofs.Least.{on-is, without-is, new-slab}
 use Rattle.set_minima.proofs.Holding.{with-is}
-use Rattle.set_minima.specs.Cells.{found, cell, IsSmall}
+use Rattle.set_minima.specs.Cells.{found, cell}
 use Rattle.colour_tables.specs.Leasts.{AreCharged}
 use Rattle.colour_tables.specs.Leasts.{IsLeast, IsRoom, two_colours}
 use Rattle.colour_tables.proofs.ColoursPaid.{sum-unset, top-values}
-use Rattle.mill_model.specs.declared.prices.TheConstants.{MAX_PRICE}
-use Rattle.mill_model.specs.declared.order.TheConstants.{MAX_ORDERS}
 
 -- a table that reaches to the room of a slab
 pub least-top : (rest : List Order) (prices : List ℤ) (charge : ℕ → ℕ) (largest base n : ℕ)

@@ -11,7 +11,8 @@ use Rattle.list_laws.specs.Sets.{holds}
 use Rattle.list_laws.proofs.Tests.{and-left, and-right}
 use Rattle.list_laws.proofs.Tests.{either, or-cases, or-left, or-right}
 use Rattle.list_laws.proofs.Tests.{clash}
-use Rattle.colour_tables.specs.Threes.{Three, IsSorted, insert, three, but, once, IsButOne}
+use Rattle.colour_tables.specs.Threes.{IsSorted, insert, three, but, once, IsButOne}
+use Rattle.colour_tables.specs.declared.tops.Three.{Three}
 use Rattle.colour_tables.specs.Threes.{IsButTwo, IsLeft}
 
 first-swap : (b x y : ℤ) → int_max (int_max b y) x ≡ int_max (int_max b x) y
@@ -265,20 +266,11 @@ two-lower x y b s t h l p q u v = record {
     clash-mid a = absurd (grind (arith, ints))
 
 -- one thing more of a list is looked at
-pub three-next : (f : ℕ → ℤ) (cs : List ℕ) (i : ℕ) → i < length cs → (b s t v b' s' t' : ℤ) →
-    b ≡ (three f (take i cs)).best → s ≡ (three f (take i cs)).second →
-    t ≡ (three f (take i cs)).third → v ≡ f (get_or cs i 0) → b' ≡ int_max b v →
-    s' ≡ int_max s (int_min b v) → t' ≡ int_max t (int_min s (int_min b v)) →
-    (b' ≡ (three f (take (i + 1) cs)).best) × (s' ≡ (three f (take (i + 1) cs)).second)
-    × (t' ≡ (three f (take (i + 1) cs)).third)
-three-next f cs i h b s t v b' s' t' p q r e x y z =
-    let n : three f (take (i + 1) cs) ≡ insert (f (get_or cs i 0)) (three f (take i cs)) =
-    ap (λ j. three f (take j cs)) (one i) ∙ ap (three f) (take-suc cs i 0 h)
-    ∙ three-last f (get_or cs i 0) (take i cs) in (
-      x ∙ ap₂ int_max p e ∙ sym (ap (λ (u : Three). u.best) n),
-      y ∙ ap₂ int_max q (ap₂ int_min p e) ∙ sym (ap (λ (u : Three). u.second) n),
-      z ∙ ap₂ int_max r (ap₂ int_min q (ap₂ int_min p e)) ∙ sym (ap (λ (u : Three). u.third) n),
-    )
+pub three-next : (f : ℕ → ℤ) (cs : List ℕ) (i : ℕ) → i < length cs → (t : Three) →
+    t ≡ three f (take i cs) → insert (f (get_or cs i 0)) t ≡ three f (take (i + 1) cs)
+three-next f cs i h t e =
+    ap (insert (f (get_or cs i 0))) e ∙ sym (three-last f (get_or cs i 0) (take i cs))
+    ∙ sym (ap (three f) (take-suc cs i 0 h)) ∙ ap (λ j. three f (take j cs)) (one i)
   where
-    one : (i : ℕ) → i + 1 ≡ suc i
+    one : (i : ℕ) → suc i ≡ i + 1
     one i = omega arith

@@ -1,13 +1,13 @@
 -- The least slack of the sets of allowed orders that may join a slab with some load and colours.
 use Rattle.std.specs.Prelude.{ℕ, suc, pos, ◌+◌, ◌*◌, ◌<◌, ◌-◌, ◌≤◌, ◌≡◌, Bool, true, List, [], ◌∷◌}
-use Rattle.std.specs.Prelude.{◌⊎◌, ℤ, neg_ℤ}
+use Rattle.std.specs.Prelude.{ℤ, neg_ℤ}
 use Rattle.mill_model.specs.Limits.{all_prices}
 use Rattle.mill_model.specs.Slab.{Mill}
 use Rattle.mill_model.specs.declared.charges.TheConstants.{MAX_CHARGE}
 use Rattle.mill_model.specs.declared.order.Order.{Order}
 use Rattle.set_minima.specs.Packs.{IsTop}
 use Rattle.list_laws.specs.Sets.{holds}
-use Rattle.set_minima.specs.Joins.{Joins, Packed, gain, all_places}
+use Rattle.set_minima.specs.Joins.{Joins, gain, all_places}
 use Rattle.set_minima.specs.Cells.{found}
 use Rattle.colour_tables.specs.Entries.{entry}
 

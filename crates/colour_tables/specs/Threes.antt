@@ -6,11 +6,7 @@ use Rattle.std.specs.Int.{int_max, int_min}
 use Rattle.list_laws.specs.Sets.{holds}
 use Rattle.set_minima.specs.Cells.{nothing}
 use Rattle.colour_tables.specs.Entries.{entry}
-
-pub record Three : Type 0 where
-  pub best : ℤ
-  pub second : ℤ
-  pub third : ℤ
+use Rattle.colour_tables.specs.declared.tops.Three.{Three}
 
 pub record IsSorted (t : Three) : Type 0 where
   pub upper : t.second ≤ℤ t.best

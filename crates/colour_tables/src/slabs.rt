@@ -332,9 +332,5 @@ pub(crate) fn least_new(rows: &Rows, runs: &Runs, table: &mut [i64], charges: &[
         least = least.min(least_above(charges, table));
     }
     let far = -(NOTHING / 2);
-    if far < least {
-        None
-    } else {
-        Some(least)
-    }
+    if far < least { None } else { Some(least) }
 }

@@ -6,20 +6,40 @@ ghost use Rattle.std.specs.Int.{int_max, int_min};
 ghost use Rattle.list_laws.specs.Sets.{holds};
 ghost use Rattle.colour_tables.specs.Entries.{entry};
 ghost use Rattle.set_minima.specs.Cells.{AreNear, nothing};
-ghost use Rattle.colour_tables.specs.Threes.{Three, IsButOne, IsButTwo, IsLeft, insert, column};
+ghost use Rattle.colour_tables.specs.Threes.{IsButOne, IsButTwo, IsLeft, insert, column};
+ghost use Rattle.colour_tables.specs.declared.tops.Three.{Three};
 ghost use Rattle.colour_tables.specs.Threes.{three};
 ghost use Rattle.colour_tables.specs.Threes.{row_entry, once, AreWithin, AreTops, IsSorted};
 
 use crate::table::NOTHING;
 
-/// Three numbers, the greatest first, with one more and without the least.
-fn inserted(x: i64, best: i64, second: i64, third: i64) -> (i64, i64, i64)
-    ensures first { result.0 ≡ int_max best x }
-    ensures second { result.1 ≡ int_max second (int_min best x) }
-    ensures third { result.2 ≡ int_max third (int_min second (int_min best x)) }
-{
-    let out = best.min(x);
-    (best.max(x), second.max(out), third.max(second.min(out)))
+/// Three numbers, the greatest first.
+#[derive(Clone, Copy, Debug, Drop)]
+pub(crate) struct Three {
+    pub(crate) best: i64,
+    pub(crate) second: i64,
+    pub(crate) third: i64,
+}
+
+/// A load of a row.
+#[derive(Clone, Copy, Debug, Drop)]
+pub(crate) struct RowPlace {
+    pub(crate) row: usize,
+    pub(crate) load: usize,
+}
+
+impl Three {
+    /// With one more number, and without the least.
+    fn inserted(self, x: i64) -> Three
+        ensures { result ≡ insert x self }
+    {
+        let out = self.best.min(x);
+        Three {
+            best: self.best.max(x),
+            second: self.second.max(out),
+            third: self.third.max(self.second.min(out)),
+        }
+    }
 }
 
 /// Moves a row into the three greatest values at each load but 0.
@@ -33,10 +53,15 @@ pub(crate) fn raise_tops(best: &mut [i64], second: &mut [i64], third: &mut [i64]
     ensures first { entry best.new 0 ≡ entry best.old 0 }
 {
     for l in 1..best.len() {
-        let (b, s, t) = inserted(row[l], best[l], second[l], third[l]);
-        best[l] = b;
-        second[l] = s;
-        third[l] = t;
+        let old = Three {
+            best: best[l],
+            second: second[l],
+            third: third[l],
+        };
+        let tops = old.inserted(row[l]);
+        best[l] = tops.best;
+        second[l] = tops.second;
+        third[l] = tops.third;
     }
 }
 
@@ -125,33 +150,32 @@ pub(crate) fn others_or(to: &mut [i64], best: &[i64], second: &[i64], x: &[i64],
 }
 
 /// Looks through all rows for the three greatest values at a load.
-fn look(rows: &[i64], width: usize, present: &[usize], load: usize) -> (i64, i64, i64)
+fn look(rows: &[i64], width: usize, present: &[usize], load: usize) -> Three
     requires rows { AreWithin width (length rows.now) present.now }
     requires load { load < width }
-    ensures first { result.0 ≡ (three (row_entry rows.now width load) present.now).best }
-    ensures second { result.1 ≡ (three (row_entry rows.now width load) present.now).second }
-    ensures third { result.2 ≡ (three (row_entry rows.now width load) present.now).third }
+    ensures { result ≡ three (row_entry rows.now width load) present.now }
 {
-    let mut best = NOTHING;
-    let mut second = NOTHING;
-    let mut third = NOTHING;
+    let mut tops = Three {
+        best: NOTHING,
+        second: NOTHING,
+        third: NOTHING,
+    };
     for i in 0..present.len() {
-        let value = rows[present[i] * width + load];
-        (best, second, third) = inserted(value, best, second, third);
+        tops = tops.inserted(rows[present[i] * width + load]);
     }
-    (best, second, third)
+    tops
 }
 
 /// The two greatest that are left without an old value that is no third of them.
-fn left(old: i64, best: i64, second: i64, third: i64) -> (i64, i64)
-    ensures { IsLeft old best second third result.0 result.1 }
+fn left(old: i64, tops: Three) -> (i64, i64)
+    ensures { IsLeft old tops.best tops.second tops.third result.0 result.1 }
 {
-    if old == best {
-        (second, third)
-    } else if old == second {
-        (best, third)
+    if old == tops.best {
+        (tops.second, tops.third)
+    } else if old == tops.second {
+        (tops.best, tops.third)
     } else {
-        (best, second)
+        (tops.best, tops.second)
     }
 }
 
@@ -163,23 +187,24 @@ fn mended(
     load: usize,
     old: i64,
     value: i64,
-    best: i64,
-    second: i64,
-    third: i64,
-) -> (i64, i64, i64)
+    tops: Three,
+) -> Three
     requires rows { AreWithin width (length rows.now) present.now }
     requires load { load < width }
-    ensures is { (r : Three) → IsSorted r →
-        record { best = best; second = second; third = third } ≡ insert old r →
+    ensures is { (r : Three) → IsSorted r → tops ≡ insert old r →
         three (row_entry rows.now width load) present.now ≡ insert value r →
-        record { best = result.0; second = result.1; third = result.2 } ≡ insert value r }
+        result ≡ insert value r }
 {
-    if third <= value {
-        let (x, y) = left(old, best, second, third);
+    if tops.third <= value {
+        let (x, y) = left(old, tops);
         let out = x.min(value);
-        (x.max(value), y.max(out), y.min(out))
-    } else if old < third {
-        (best, second, third)
+        Three {
+            best: x.max(value),
+            second: y.max(out),
+            third: y.min(out),
+        }
+    } else if old < tops.third {
+        tops
     } else {
         look(rows, width, present, load)
     }
@@ -188,49 +213,44 @@ fn mended(
 /// Puts a value into a row at a load, and mends the three greatest there.
 fn replace_at(
     rows: &mut [i64],
-    c: usize,
+    at: RowPlace,
     new: &[i64],
-    load: usize,
     present: &[usize],
     best: &mut [i64],
     second: &mut [i64],
     third: &mut [i64],
 )
     requires rows { AreWithin (length new.now) (length rows.old) present.now }
-    requires here { c * length new.now + length new.now ≤ length rows.old }
-    requires held { holds c present.now ≡ true }
+    requires here { at.row * length new.now + length new.now ≤ length rows.old }
+    requires held { holds at.row present.now ≡ true }
     requires once { once present.now ≡ true }
-    requires load { load < length new.now }
+    requires load { at.load < length new.now }
     requires best { length new.now ≤ length best.old }
     requires second { length new.now ≤ length second.old }
     requires third { length new.now ≤ length third.old }
-    requires tops { column best.old second.old third.old load
-        ≡ three (row_entry rows.old (length new.now) load) present.now }
-    ensures rows { rows.new ≡ set rows.old (c * length new.now + load) (entry new.now load) }
-    ensures tops { column best.new second.new third.new load
-        ≡ three (row_entry rows.new (length new.now) load) present.now }
-    ensures others { (k : ℕ) → k ≢ load → column best.new second.new third.new k
+    requires tops { column best.old second.old third.old at.load
+        ≡ three (row_entry rows.old (length new.now) at.load) present.now }
+    ensures rows { rows.new ≡ set rows.old (at.row * length new.now + at.load) (entry new.now at.load) }
+    ensures tops { column best.new second.new third.new at.load
+        ≡ three (row_entry rows.new (length new.now) at.load) present.now }
+    ensures others { (k : ℕ) → k ≢ at.load → column best.new second.new third.new k
         ≡ column best.old second.old third.old k }
 {
-    let at = c * new.len() + load;
-    let old = rows[at];
+    let load = at.load;
+    let here = at.row * new.len() + load;
+    let old = rows[here];
     let value = new[load];
     if old != value {
-        rows[at] = value;
-        let (b, s, t) = mended(
-            rows,
-            new.len(),
-            present,
-            load,
-            old,
-            value,
-            best[load],
-            second[load],
-            third[load],
-        );
-        best[load] = b;
-        second[load] = s;
-        third[load] = t;
+        rows[here] = value;
+        let before = Three {
+            best: best[load],
+            second: second[load],
+            third: third[load],
+        };
+        let tops = mended(rows, new.len(), present, load, old, value, before);
+        best[load] = tops.best;
+        second[load] = tops.second;
+        third[load] = tops.third;
     }
 }
 
@@ -262,6 +282,7 @@ pub(crate) fn replace(
 {
     rows[c * new.len()] = new[0];
     for load in 1..new.len() {
-        replace_at(rows, c, new, load, present, best, second, third);
+        let at = RowPlace { row: c, load };
+        replace_at(rows, at, new, present, best, second, third);
     }
 }

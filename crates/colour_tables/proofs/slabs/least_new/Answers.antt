@@ -1,4 +1,4 @@
-use Rattle.std.proofs.Common.{◌≡◌, ◌+◌, ◌<◌, ◌∷◌, [], ◌∙◌, length, take, neg_ℤ, sym, subst, arith}
+use Rattle.std.proofs.Common.{◌≡◌, ◌+◌, ◌<◌, ◌∷◌, [], ◌∙◌, length, take, neg_ℤ, sym, subst}
 use Rattle.std.proofs.Common.{SFits, w64, to_z, to_z-of_z, rules}
 use Rattle.std.proofs.lemmas.List.{take_all}
 use Rattle.set_minima.specs.Packs.{IsTop, IsTable}

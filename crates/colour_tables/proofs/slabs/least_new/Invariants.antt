@@ -1,4 +1,4 @@
-use Rattle.std.proofs.Common.{ℕ, ℤ, List, ◌<◌, take, length, neg_ℤ}
+use Rattle.std.proofs.Common.{ℕ, ℤ, List, take, length, neg_ℤ}
 use Rattle.mill_model.specs.declared.order.Order.{Order}
 use Rattle.set_minima.specs.Packs.{IsTop}
 use Rattle.set_minima.specs.Joins.{gain}

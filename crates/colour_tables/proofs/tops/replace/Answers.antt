@@ -4,7 +4,8 @@ use Rattle.std.proofs.Common.{List, ℤ}
 use Rattle.std.proofs.lemmas.Bool.{cases_lt}
 use Rattle.std.proofs.lemmas.List.{length-set}
 use Rattle.colour_tables.specs.Entries.{entry}
-use Rattle.colour_tables.specs.Threes.{Three, column, three, row_entry}
+use Rattle.colour_tables.specs.Threes.{column, three, row_entry}
+use Rattle.colour_tables.specs.declared.tops.Three.{Three}
 use Rattle.colour_tables.proofs.LoadsWritten.{set-same, set-other}
 use Rattle.colour_tables.proofs.FlatRows.{tops-put}
 use Rattle.colour_tables.proofs.tops.replace.Goals as goal

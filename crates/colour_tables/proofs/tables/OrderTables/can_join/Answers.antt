@@ -1,4 +1,4 @@
-use Rattle.std.proofs.Common.{ℕ, ◌≡◌, ◌+◌, ◌-◌, ◌≤◌, true, None, map, length, get_or, set, sym}
+use Rattle.std.proofs.Common.{ℕ, ◌≡◌, ◌-◌, ◌≤◌, true, None, map, length, get_or, set, sym}
 use Rattle.std.proofs.Common.{subst, arith}
 use Rattle.list_laws.specs.Sets.{below}
 use Rattle.mill_model.specs.Bounds.{least_on_with}

@@ -1,4 +1,4 @@
-use Rattle.std.proofs.Common.{pos, ◌+◌, ◌-◌, ◌<◌, ◌≤◌, ◌∷◌, [], ℕ, get_or, length, sym, subst, arith}
+use Rattle.std.proofs.Common.{pos, ◌+◌, ◌-◌, ◌≤◌, ◌∷◌, [], ℕ, get_or, length, sym, subst, arith}
 use Rattle.std.proofs.Common.{SFits, w64, to_z-of_z, rules}
 use Rattle.mill_model.specs.Charges.{charge_of}
 use Rattle.set_minima.specs.Packs.{nobody}
@@ -8,9 +8,7 @@ use Rattle.colour_tables.specs.PricedOrders.{PricedOrders, IsTurnOf}
 use Rattle.colour_tables.proofs.PaidCharges.{charged-from}
 use Rattle.colour_tables.proofs.TurnTables.{front-of}
 use Rattle.mill_model.specs.declared.order.TheConstants.{MAX_ORDERS}
-use Rattle.set_minima.specs.Cells.{IsSmall}
 use Rattle.colour_tables.specs.Entries.{AreSmallAll}
-use Rattle.colour_tables.specs.Leasts.{slack_limit}
 use Rattle.colour_tables.specs.Leasts.{two_colours}
 use Rattle.mill_model.specs.Bounds.{in_set}
 use Rattle.colour_tables.proofs.SlacksWithin.{small-from}
@@ -34,13 +32,13 @@ returns-clause-is c =
     record { fits = fits; wide = omega arith } in
     let f : SFits w64 c.least_new_with.result = search rules in
     rw (← c.self.view_is) (λ price.
-          simp to_z-of_z (c.least_new_with.ensures.is t.rest.now t.prices.items charge t.largest
-          (name d) j i.row_tables.same q.tables.here q.tables.colour
-          (front-of (all_but j) (name d ∷ []) 2 t.rest.now t.prices.items (t.largest + 1)
-          (t.largest - weight + 1) c.args.turn.now.beside.items c.deref-2.result.now (omega arith)
-          c.deref-2.ensures.value q.tables.mates) room
-          (charged-from charge t.largest weight (t.largest - weight + 1) t.paid.items
-          c.deref.result.now c.deref.ensures.value i.reach i.charged room) price))
+    simp to_z-of_z (c.least_new_with.ensures.is t.rest.now t.prices.items charge t.largest
+    (name d) j i.row_tables.same q.tables.here q.tables.colour
+    (front-of (all_but j) (name d ∷ []) 2 t.rest.now t.prices.items (t.largest + 1)
+    (t.largest - weight + 1) c.args.turn.now.beside.items c.deref-2.result.now (omega arith)
+    c.deref-2.ensures.value q.tables.mates) room
+    (charged-from charge t.largest weight (t.largest - weight + 1) t.paid.items
+    c.deref.result.now c.deref.ensures.value i.reach i.charged room) price))
 
 pub returns-clause-small : goal.returns-clause-small
 returns-clause-small c =

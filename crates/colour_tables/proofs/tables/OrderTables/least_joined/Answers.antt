@@ -1,4 +1,4 @@
-use Rattle.std.proofs.Common.{◌≤◌, pos, ◌≡◌, ◌+◌, ◌-◌, ◌<◌, ℕ, get_or, length, sym, subst, arith}
+use Rattle.std.proofs.Common.{◌≤◌, pos, ◌≡◌, ◌+◌, ◌-◌, ℕ, get_or, length, sym, subst, arith}
 use Rattle.std.proofs.Common.{SFits, w64, to_z-of_z, rules, take}
 use Rattle.mill_model.specs.Charges.{charge_of}
 use Rattle.set_minima.specs.Packs.{nobody}
@@ -6,9 +6,7 @@ use Rattle.colour_tables.specs.PricedOrders.{PricedOrders, IsTurnOf, MayJoin}
 use Rattle.colour_tables.proofs.PaidCharges.{charged-from, room-of}
 use Rattle.colour_tables.proofs.TurnTables.{turn-wide}
 use Rattle.mill_model.specs.declared.order.TheConstants.{MAX_ORDERS}
-use Rattle.set_minima.specs.Cells.{IsSmall}
 use Rattle.colour_tables.specs.Entries.{AreSmallAll}
-use Rattle.colour_tables.specs.Leasts.{slack_limit}
 use Rattle.colour_tables.specs.Leasts.{two_colours}
 use Rattle.mill_model.specs.Bounds.{in_set}
 use Rattle.colour_tables.proofs.SlacksWithin.{known-stands, small-from, stand-in}
@@ -33,14 +31,14 @@ returns-clause-is c =
     let m = c.tables.ensures in
     let is = rw (m.place, m.colour, m.alone, m.beside) at c.least_with.ensures.is in
     rw (← c.self.view_is) (λ price group st.
-          simp to_z-of_z (is t.rest.now t.prices.items name charge t.largest
-          c.args.slab.load st.own i.row_tables i.run_orders
-          (turn-wide t.rest.now t.prices.items name (t.largest + 1) t.rows.width
-          c.args.turn.now.colour c.args.turn.now.place c.args.turn.now.alone.items
-          c.args.turn.now.beside.items i.width q.tables) st.is room
-          (charged-from charge t.largest base (length (take (t.largest - base + 1) c.args.work.now))
-          t.paid.items c.deref.result.now c.deref.ensures.value i.reach i.charged room) price group
-          st.of))
+    simp to_z-of_z (is t.rest.now t.prices.items name charge t.largest
+    c.args.slab.load st.own i.row_tables i.run_orders
+    (turn-wide t.rest.now t.prices.items name (t.largest + 1) t.rows.width
+    c.args.turn.now.colour c.args.turn.now.place c.args.turn.now.alone.items
+    c.args.turn.now.beside.items i.width q.tables) st.is room
+    (charged-from charge t.largest base (length (take (t.largest - base + 1) c.args.work.now))
+    t.paid.items c.deref.result.now c.deref.ensures.value i.reach i.charged room) price group
+    st.of))
 
 pub returns-clause-small : goal.returns-clause-small
 returns-clause-small c =

@@ -1,4 +1,4 @@
-use Rattle.std.proofs.Common.{◌≡◌, ◌+◌, ◌<◌, ℕ, ℤ, List, get_or, length, sym, subst, arith}
+use Rattle.std.proofs.Common.{◌≡◌, ◌+◌, ℕ, ℤ, List, get_or, length, sym, subst, arith}
 use Rattle.std.proofs.Common.{pos, ◌*◌, ◌≤◌, IfSome, []}
 use Rattle.mill_model.specs.Charges.{charge_of}
 use Rattle.colour_tables.specs.Entries.{entry}

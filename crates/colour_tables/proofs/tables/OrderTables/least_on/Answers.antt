@@ -1,4 +1,4 @@
-use Rattle.std.proofs.Common.{◌≤◌, pos, ◌≡◌, ◌+◌, ◌-◌, ◌<◌, ℕ, get_or, length, sym, subst, arith}
+use Rattle.std.proofs.Common.{◌≤◌, ◌≡◌, ◌+◌, ◌-◌, ℕ, get_or, length, sym, subst, arith}
 use Rattle.std.proofs.Common.{SFits, w64, to_z-of_z, rules, take}
 use Rattle.mill_model.specs.Charges.{charge_of}
 use Rattle.colour_tables.specs.PricedOrders.{PricedOrders, IsKnown}
@@ -25,11 +25,11 @@ returns-clause-is c =
     let room = room-of t.largest c.args.slab.load c.args.work.now known.fits work in
     let f : SFits w64 c.least_on.result = search rules in
     rw (← c.self.view_is) (λ group st.
-          simp to_z-of_z (c.least_on.ensures.is t.rest.now t.prices.items name charge t.largest
-          c.args.slab.load st.own i.row_tables i.run_orders st.is room
-          (charged-from charge t.largest c.args.slab.load
-          (length (take (t.largest - c.args.slab.load + 1) c.args.work.now)) t.paid.items
-          c.deref.result.now c.deref.ensures.value i.reach i.charged room) group st.of))
+    simp to_z-of_z (c.least_on.ensures.is t.rest.now t.prices.items name charge t.largest
+    c.args.slab.load st.own i.row_tables i.run_orders st.is room
+    (charged-from charge t.largest c.args.slab.load
+    (length (take (t.largest - c.args.slab.load + 1) c.args.work.now)) t.paid.items
+    c.deref.result.now c.deref.ensures.value i.reach i.charged room) group st.of))
 
 pub returns-clause-small : goal.returns-clause-small
 returns-clause-small c =

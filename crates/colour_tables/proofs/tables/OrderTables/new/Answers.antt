@@ -1,4 +1,4 @@
-use Rattle.std.proofs.Common.{ℕ, ◌≡◌, ◌∙◌, ◌<◌, ◌≤◌, ◌+◌, true, length, get_or, sym, subst, arith}
+use Rattle.std.proofs.Common.{ℕ, ◌≡◌, ◌∙◌, ◌≤◌, ◌+◌, true, length, get_or, sym, subst, arith}
 use Rattle.std.proofs.Common.{rules}
 use Rattle.list_laws.specs.Sets.{below}
 use Rattle.colour_tables.specs.Stretches.{IsByColour, AreStretches, AreColours, AreItems}

@@ -6,3 +6,5 @@
 mod knapsacks;
 #[cfg(test)]
 mod mill;
+#[cfg(test)]
+mod tables;

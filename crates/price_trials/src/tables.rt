@@ -1,7 +1,8 @@
 //! Least slacks for two colours a slab, from tables in which prices change: by hand, and beside
 //! those of the knapsack for any number of colours. Prices and slacks are in sixtieths of a loss
 //! unit.
-ghost use Rattle.std.specs.Prelude.{◌≡◌, ◌<◌, IfOk, length};
+ghost use Rattle.std.specs.Prelude.{◌≡◌, ◌<◌, All, IfOk, length};
+ghost use Rattle.mill_model.specs.Limits.{IsPrice};
 ghost use Rattle.set_minima.specs.Joins.{AreOrders};
 ghost use Rattle.colour_tables.specs.Grouped.{AreGroups};
 
@@ -76,45 +77,34 @@ fn a_group(rt: HostRuntime) -> Result<(), Fail> {
     Ok(())
 }
 
-// At two points of a grid of prices: new slabs, and a slab with an order of a colour that comes
-// again.
+/// Whether tables and knapsack agree on new slabs, under prices that they both have.
+fn agree(tables: &mut ColourTables, knapsack: &mut Knapsack, prices: &[i64]) -> bool
+    requires tables { length tables.old.orders ≡ 3 }
+    requires knapsack { length knapsack.old.orders ≡ 3 }
+    requires one_each { length prices.now ≡ 3 }
+    requires priced { All IsPrice prices.now }
+    ensures tables { tables.new ≡ tables.old }
+    ensures knapsack { knapsack.new ≡ knapsack.old }
+{
+    let new = tables.least_new() == knapsack.least_new(prices);
+    let with = tables.least_new_with(2) == knapsack.least_new_with(prices, 2);
+    new && with
+}
+
+// At two points of a grid of prices.
 #[test]
 fn as_the_knapsack_has_them(rt: HostRuntime) -> Result<(), Fail> {
     let alloc = rt.alloc();
     let charges = charges_to_four(alloc)?;
     let ranked = ranked_of(alloc, &THREE_ORDERS, 2)?;
     let orders = orders_of(alloc, &[(2, 3), (1, 1), (1, 2)])?;
-    let groups = one_group(alloc, 1)?;
     assert_eq!(rt; ranked.len(), 3);
     assert_eq!(rt; ranked.largest(), 4);
-    assert_eq!(rt; ranked.p(), 2);
+    let none: [OpenSlab; 0] = [];
     let mut knapsack = Knapsack::new(alloc, &ranked, &charges, 0)?;
-    let mut tables = ColourTables::new(alloc, &orders, &[0, 0, 0], &groups, &charges, 4)?;
-    tables.set_price(0, 90);
+    let mut tables = ColourTables::new(alloc, &orders, &[90, 0, 0], &none, &charges, 4)?;
+    assert!(rt; agree(&mut tables, &mut knapsack, &[90, 0, 0]));
     tables.set_price(1, -60);
-    let prices = [90, -60, 0];
-    assert_eq!(rt; tables.least_new(), knapsack.least_new(&prices));
-    assert_eq!(rt;
-        tables.least_new_with(2),
-        knapsack.least_new_with(&prices, 2)
-    );
-    assert_eq!(rt; tables.least_on(0), knapsack.least_on(&groups[0], &prices));
-    assert_eq!(rt;
-        tables.least_on_with(0, 2),
-        knapsack.least_on_with(&groups[0], &prices, 2)
-    );
-    tables.set_price(0, -30);
-    tables.set_price(1, 30);
-    let prices = [-30, 30, 0];
-    assert_eq!(rt; tables.least_new(), knapsack.least_new(&prices));
-    assert_eq!(rt;
-        tables.least_new_with(2),
-        knapsack.least_new_with(&prices, 2)
-    );
-    assert_eq!(rt; tables.least_on(0), knapsack.least_on(&groups[0], &prices));
-    assert_eq!(rt;
-        tables.least_on_with(0, 2),
-        knapsack.least_on_with(&groups[0], &prices, 2)
-    );
+    assert!(rt; agree(&mut tables, &mut knapsack, &[90, -60, 0]));
     Ok(())
 }

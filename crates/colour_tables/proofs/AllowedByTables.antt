@@ -1,6 +1,7 @@
 -- Which orders the tables allow, once the run of a colour is let in.
 use Rattle.std.proofs.Common.{ℕ, ◌<◌, ◌≤◌, ◌≡◌, ◌≢◌, Bool, true, false, not, ◌&&◌, ◌||◌, List, []}
-use Rattle.std.proofs.Common.{◌∷◌, map, length, Option, Some, None, IfSome, eqb, eqb-true, eq-eqb, ne_eqb}
+use Rattle.std.proofs.Common.{◌∷◌, map, length, Option, Some}
+use Rattle.std.proofs.Common.{None, IfSome, eqb, eqb-true, eq-eqb, ne_eqb}
 use Rattle.std.proofs.Common.{refl, sym, ap, ◌∙◌, subst, arith, inl, inr}
 use Rattle.list_laws.specs.Sets.{holds, different}
 use Rattle.mill_model.specs.declared.order.Order.{Order}

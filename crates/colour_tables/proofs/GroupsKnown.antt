@@ -50,7 +50,8 @@ one-more-known orders groups slabs slab are known stands = record {
     | inr e ↦ subst (λ s. IsKnown orders s) (sym (last g e)) known
   ];
   stands = λ g b group carries. elim (place g b) [
-    | inl h ↦ subst (λ s. StandsFor orders group s) (sym (before g h)) (are.stands g h group carries)
+    | inl h ↦ subst (λ s. StandsFor orders group s) (sym (before g h))
+        (are.stands g h group carries)
     | inr e ↦ subst (λ s. StandsFor orders group s) (sym (last g e))
         (stands group (subst (λ n. Carries (group_at groups n) group) e carries))
   ];

@@ -226,7 +226,8 @@ module _ (rest : List Order) (prices : List ℤ) (same : length prices ≡ lengt
           (λ k. holds-named i k) (λ k. named-holds i h k);
     }
 
-    pub run-small : length rest ≤ MAX_ORDERS → AreOrders rest → AreSmallAll prices → AreSmall (run c)
+    pub run-small : length rest ≤ MAX_ORDERS → AreOrders rest → AreSmallAll prices →
+        AreSmall (run c)
     run-small few orders small = record {
       few =
           let n : length (run c) ≡ end - at = run-length in

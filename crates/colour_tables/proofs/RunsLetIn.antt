@@ -73,7 +73,8 @@ and-true : (a b : Bool) → a ≡ true → b ≡ true → (a && b) ≡ true
 and-true true b h k = k
 and-true false b h k = h
 
-module _ (before : ℕ → Bool) (run : List Item) (skip : Option ℕ) (t : ℕ) (here : t < length run) where
+module _ (before : ℕ → Bool) (run : List Item) (skip : Option ℕ) (t : ℕ)
+    (here : t < length run) where
   abbrev p : ℕ
   p = (item_at run t).place
 

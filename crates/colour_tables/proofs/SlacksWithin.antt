@@ -1,5 +1,5 @@
--- How large least slacks get: each is the slack of a set, which is what one charge and the prices of
--- its orders come to.
+-- How large least slacks get: each is the slack of a set, which is what one charge and the prices
+-- of its orders come to.
 use Rattle.std.proofs.Common.{ℕ, ◌+◌, ◌*◌, ◌≤◌, ◌≡◌, Bool, List, [], ◌∷◌, ◌++◌, length}
 use Rattle.std.proofs.Common.{map, ℤ, pos, neg_ℤ, ◌-ℤ◌, ◌≤ℤ◌, Some, IfSome}
 use Rattle.std.proofs.Common.{refl, sym, ap, ◌∙◌, subst, arith, inl, inr, set, length-set}

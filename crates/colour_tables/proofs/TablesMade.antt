@@ -26,7 +26,8 @@ pub prices-small : (prices : List ℤ) → All IsPrice prices → AreSmallAll pr
 prices-small prices h =
     all-small prices (λ k b. let p : IsPrice (entry prices k) = h k _ b in (p.0, p.1))
 
-module _ (rest : List Order) (prices : List ℤ) (few : length rest ≤ MAX_ORDERS) (orders : AreOrders rest)
+module _ (rest : List Order) (prices : List ℤ) (few : length rest ≤ MAX_ORDERS)
+    (orders : AreOrders rest)
     (same : length prices ≡ length rest) (small : AreSmallAll prices)
     (sorted : List Coloured) (by : IsByColour rest sorted) (runs : Runs)
     (st : AreStretches sorted (length sorted) runs.ends.items) (colours : List ℕ)

@@ -229,8 +229,10 @@ pub(crate) fn least_with(
         IsTurn rest prices name rows.now.width turn.now.colour turn.now.place turn.now.alone.now
         turn.now.beside.now →
         IsOwn rest name colours own →
-        IsRoom largest (base + (slice_index_or rest turn.now.place nobody).weight) (length table.old) →
-        AreCharged charge (base + (slice_index_or rest turn.now.place nobody).weight) (length table.old)
+        IsRoom largest (base + (slice_index_or rest turn.now.place nobody).weight)
+        (length table.old) →
+        AreCharged charge (base + (slice_index_or rest turn.now.place nobody).weight)
+        (length table.old)
         charges.now → (v : ℤ) → (group : List Order) → IsSlab group base colours →
         least_on_with (two_colours largest) charge group rest (set prices turn.now.place v)
         turn.now.place

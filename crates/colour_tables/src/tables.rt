@@ -183,8 +183,8 @@ impl<'a> OrderTables<'a> {
         )
     }
 
-    /// The least slack of a slab over all sets that may join it without the order in its turn, where
-    /// that order can join the slab; else None.
+    /// The least slack of a slab over all sets that may join it without the order in its turn,
+    /// where that order can join the slab; else None.
     pub(crate) fn least_on_without(&self, work: &mut [i64], slab: Slab, turn: &Turn) -> Option<i64>
         requires known { IsKnown self.now slab }
         requires turn { IsTurnOf self.now turn.now }

@@ -230,7 +230,8 @@ fn replace_at(
     requires third { length new.now ≤ length third.old }
     requires tops { column best.old second.old third.old at.load
         ≡ three (row_entry rows.old (length new.now) at.load) present.now }
-    ensures rows { rows.new ≡ set rows.old (at.row * length new.now + at.load) (entry new.now at.load) }
+    ensures rows { rows.new ≡ set rows.old (at.row * length new.now + at.load)
+        (entry new.now at.load) }
     ensures tops { column best.new second.new third.new at.load
         ≡ three (row_entry rows.new (length new.now) at.load) present.now }
     ensures others { (k : ℕ) → k ≢ at.load → column best.new second.new third.new k

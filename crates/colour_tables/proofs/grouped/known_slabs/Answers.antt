@@ -15,7 +15,8 @@ loop-g-preserved c =
     let e : c.push.new.self.items ≡ c.loop-g.slabs.items ++ c.slab.result ∷ [] = search rules in
     let n : length c.loop-g.slabs.items ≡ c.loop-g.g = c.loop-g.invariant.count in
     let here : group_at c.args.groups.now (length c.loop-g.slabs.items) ≡ c.index-groups-g.result =
-    subst (λ k. group_at c.args.groups.now k ≡ c.index-groups-g.result) (sym n) (get_or_default c.args.groups.now c.loop-g.g (empty_on (two_colours 0)) c.index-groups-g.result
+    subst (λ k. group_at c.args.groups.now k ≡ c.index-groups-g.result) (sym n)
+    (get_or_default c.args.groups.now c.loop-g.g (empty_on (two_colours 0)) c.index-groups-g.result
     (search rules) ∙ sym c.index-groups-g.is) in
     record {
       count =

@@ -86,7 +86,8 @@ returns-else-d-c c = record {
       (base + (get_or rest j nobody).weight) c.args.turn.now.colour now rows
       (subst (λ xs. IsRun rest prices a xs) (sym c.run.ensures.is) (runs c.args.turn.now.colour
       c.requires.colour))
-      (but-more d c.args.turn.now.colour cs (ne_eqb c.args.turn.now.colour d (λ q. c.if-d-c.false (sym q)))
+      (but-more d c.args.turn.now.colour cs (ne_eqb c.args.turn.now.colour d
+      (λ q. c.if-d-c.false (sym q)))
       c.requires.colour) turn.colour (two-different a x apart)
       (holds-first a (x ∷ [])) (holds-second a x) room charged in
       simp to_z-of_z (slack-with-own rest prices charge largest base n colours now
@@ -107,7 +108,8 @@ returns-in-One c = record {
       let a = name c.args.turn.now.colour in
       let j = c.args.turn.now.place in
       let has : holds a colours ≡ true = subst (λ z. holds (name z) colours ≡ true) e o.1 in
-      let table = alone-table rest prices a j n colours (cell c.args.turn.now.alone.now) o.0 has turn.colour
+      let table = alone-table rest prices a j n colours
+      (cell c.args.turn.now.alone.now) o.0 has turn.colour
       (λ i b h. subst (λ z. eqb (colour_at rest i) (name z) ≡ true) e (o.2 i b h))
       (λ l b. turn.alone l (omega (arith, c.requires.few))) in
       let top = c.least_front-in-One.ensures.top (all_but j) colours 2 rest prices charge
@@ -164,7 +166,8 @@ returns-else-d-c-2 c = record {
       let a = name c.args.turn.now.colour in
       let j = c.args.turn.now.place in
       let cs = c.args.rows.now.present.items in
-      let s : e ≡ c.args.turn.now.colour = elim t [ inl q ↦ absurd (c.if-d-c-2.false q) | inr q ↦ q ] in
+      let s : e ≡ c.args.turn.now.colour = elim t [ inl q ↦ absurd
+      (c.if-d-c-2.false q) | inr q ↦ q ] in
       let has : holds a colours ≡ true = subst (λ z. holds (name z) colours ≡ true) s o.2 in
       let other : holds c.args.turn.now.colour (but d cs) ≡ true =
       subst (λ z. holds z (but d cs) ≡ true) s h.1 in

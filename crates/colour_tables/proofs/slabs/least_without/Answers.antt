@@ -80,7 +80,8 @@ returns-in-One c = record {
       let a = name c.args.turn.now.colour in
       let j = c.args.turn.now.place in
       let has : holds a colours ≡ true = subst (λ z. holds (name z) colours ≡ true) e o.1 in
-      let table = alone-table rest prices a j n colours (cell c.args.turn.now.alone.now) o.0 has turn.colour
+      let table = alone-table rest prices a j n colours
+      (cell c.args.turn.now.alone.now) o.0 has turn.colour
       (λ i b h. subst (λ z. eqb (colour_at rest i) (name z) ≡ true) e (o.2 i b h))
       (λ l b. turn.alone l (omega (arith, c.requires.few))) in
       let top = c.least_front-in-One.ensures.top (all_but j) colours 2 rest prices charge
@@ -112,7 +113,8 @@ returns-then-d-c-2 c = record {
       subst (λ z. holds (name z) colours ≡ true) c.if-d-c-2.true o.1 in
       let other : holds c.args.turn.now.colour (but e cs) ≡ true =
       subst (λ z. holds z (but e cs) ≡ true) c.if-d-c-2.true (row-without d e cs h.1 h.0) in
-      let least = c.least_pair.ensures.is rest prices name charge largest base c.args.turn.now.colour colours
+      let least = c.least_pair.ensures.is rest prices name charge largest base
+      c.args.turn.now.colour colours
       rows (subst (λ xs. IsRun rest prices a xs) (sym c.run-then-d-c-2.ensures.is)
       (runs c.args.turn.now.colour c.requires.colour)) other turn.colour o.0 has o.2 room charged in
       simp to_z-of_z (slack-without-priced rest prices charge largest base colours
@@ -132,11 +134,13 @@ returns-else-d-c-2 c = record {
       let a = name c.args.turn.now.colour in
       let j = c.args.turn.now.place in
       let cs = c.args.rows.now.present.items in
-      let s : e ≡ c.args.turn.now.colour = elim t [ inl q ↦ absurd (c.if-d-c-2.false q) | inr q ↦ q ] in
+      let s : e ≡ c.args.turn.now.colour = elim t [ inl q ↦ absurd
+      (c.if-d-c-2.false q) | inr q ↦ q ] in
       let has : holds a colours ≡ true = subst (λ z. holds (name z) colours ≡ true) s o.2 in
       let other : holds c.args.turn.now.colour (but d cs) ≡ true =
       subst (λ z. holds z (but d cs) ≡ true) s h.1 in
-      let least = c.least_pair-in-Two.ensures.is rest prices name charge largest base c.args.turn.now.colour
+      let least = c.least_pair-in-Two.ensures.is rest prices name charge largest base
+      c.args.turn.now.colour
       colours rows (subst (λ xs. IsRun rest prices a xs) (sym c.run-in-Two.ensures.is)
       (runs c.args.turn.now.colour c.requires.colour)) other turn.colour o.0 has o.1 room charged in
       simp to_z-of_z (slack-without-priced rest prices charge largest base colours

@@ -28,7 +28,8 @@ loop-l-preserved c =
             (set c.loop-l.third i c.inserted-tops.result.third) z ≡ insert (entry c.args.row.now z)
             (column c.args.best.now c.args.second.now c.args.third.now z)) s
             (column-same c.loop-l.best c.loop-l.second c.loop-l.third i c.inserted-tops.result.best
-            c.inserted-tops.result.second c.inserted-tops.result.third (omega arith) (omega arith) (omega arith)
+            c.inserted-tops.result.second c.inserted-tops.result.third (omega arith) (omega arith)
+            (omega arith)
             ∙ e
             ∙ ap (insert (entry c.args.row.now i)) (c.loop-l.invariant.old i (omega arith))))
       ];

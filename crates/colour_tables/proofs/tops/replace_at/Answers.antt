@@ -14,7 +14,8 @@ returns-then-old-value-clause-tops c =
     let present = c.args.present.now in
     let v = get_or c.args.new.now l (pos 0) in
     let fv : SFits w64 (get_or c.args.new.now c.args.at.load (pos 0)) = search rules in
-    let fo : SFits w64 (get_or c.args.rows.now (c.args.at.row * length c.args.new.now + c.args.at.load) (pos
+    let fo : SFits w64 (get_or c.args.rows.now
+    (c.args.at.row * length c.args.new.now + c.args.at.load) (pos
     0)) = search rules in
     let fb : SFits w64 (get_or c.args.best.now c.args.at.load (pos 0)) = search rules in
     let fs : SFits w64 (get_or c.args.second.now c.args.at.load (pos 0)) = search rules in
@@ -26,7 +27,8 @@ returns-then-old-value-clause-tops c =
     let after = rest-after rows width c.args.at.row l v c.requires.load c.requires.here present
     c.requires.once c.requires.held in
     simp to_z-of_z (column-same c.args.best.now c.args.second.now c.args.third.now l
-    c.mended-tops.result.best c.mended-tops.result.second c.mended-tops.result.third (omega arith) (omega arith)
+    c.mended-tops.result.best c.mended-tops.result.second c.mended-tops.result.third (omega arith)
+    (omega arith)
     (omega arith)
     ∙ e (three (row_entry rows width l) (but c.args.at.row present))
     (rest-sorted rows width c.args.at.row l v c.requires.load c.requires.here present
@@ -37,7 +39,8 @@ returns-then-old-value-clause-tops c =
 pub returns-else-old-value-clause-rows : goal.returns-else-old-value-clause-rows
 returns-else-old-value-clause-rows c =
     let fv : SFits w64 (get_or c.args.new.now c.args.at.load (pos 0)) = search rules in
-    let fo : SFits w64 (get_or c.args.rows.now (c.args.at.row * length c.args.new.now + c.args.at.load) (pos
+    let fo : SFits w64 (get_or c.args.rows.now
+    (c.args.at.row * length c.args.new.now + c.args.at.load) (pos
     0)) = search rules in
     let e = simp to_z-of_z at (ap (to_z w64) c.if-old-value.false) in
     let at = c.args.at.row * length c.args.new.now + c.args.at.load in

@@ -32,7 +32,8 @@ returns-clause-is c rest prices name colour own rows run other at two h k =
     (row_entry t.rows.items t.width) d c.row.result.now
     c.copy_from_slice.new.self c.requires.few c.copy_from_slice.ensures.after
     c.row.ensures.is (rows.rows d c.requires.held)) in
-    full-table rest prices (λ i. of_colour rest (name d) i || of_colour_but rest (name colour) skip i)
+    full-table rest prices (λ i. of_colour rest (name d) i || of_colour_but rest
+    (name colour) skip i)
     (but_for skip) own 2 n (cell c.add_run.new.table) (sym two)
     (λ i b a. pair-more rest name t.present.items rows.once rows.all colour held d
     (row-without d colour t.present.items other c.requires.held) skip at i a)

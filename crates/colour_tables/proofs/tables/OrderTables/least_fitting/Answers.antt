@@ -49,6 +49,7 @@ returns-clause-small c =
     (omega (arith, i.few, i.row_tables.same)) in
     let priced = subst (λ (o : PricedOrders). AreSmallAll o.prices) c.self.view_is i.priced in
     let e = returns-clause-is c (pos 0) in
-    simp to_z-of_z (small-from o.charges o.rest o.prices few priced c.args.turn.now.place (two_colours o.largest)
+    simp to_z-of_z (small-from o.charges o.rest o.prices few priced c.args.turn.now.place
+    (two_colours o.largest)
     [] (in_set c.args.turn.now.place) c.least_new_with.result
     (simp to_z-of_z at e))

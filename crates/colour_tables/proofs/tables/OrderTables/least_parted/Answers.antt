@@ -48,7 +48,8 @@ returns-clause-small c =
     let priced = subst (λ (o : PricedOrders). AreSmallAll o.prices) c.self.view_is i.priced in
     let e = returns-clause-is c (pos 0) (stand-in c.args.slab.load c.requires.known.own)
     (known-stands _ c.args.slab c.requires.known) in
-    simp to_z-of_z (small-some o.charges o.rest o.prices few priced c.args.turn.now.place (two_colours o.largest)
+    simp to_z-of_z (small-some o.charges o.rest o.prices few priced c.args.turn.now.place
+    (two_colours o.largest)
     (stand-in c.args.slab.load c.requires.known.own)
     (λ marks. not (in_set c.args.turn.now.place marks)) c.least_without.result
     (simp to_z-of_z at e))

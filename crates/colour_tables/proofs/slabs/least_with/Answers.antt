@@ -166,8 +166,11 @@ returns-else-d-c-2 c = record {
       let a = name c.args.turn.now.colour in
       let j = c.args.turn.now.place in
       let cs = c.args.rows.now.present.items in
-      let s : e ≡ c.args.turn.now.colour = elim t [ inl q ↦ absurd
-      (c.if-d-c-2.false q) | inr q ↦ q ] in
+      let s : e ≡ c.args.turn.now.colour = elim t [
+        | inl q ↦ absurd
+            (c.if-d-c-2.false q)
+        | inr q ↦ q
+      ] in
       let has : holds a colours ≡ true = subst (λ z. holds (name z) colours ≡ true) s o.2 in
       let other : holds c.args.turn.now.colour (but d cs) ≡ true =
       subst (λ z. holds z (but d cs) ≡ true) s h.1 in

@@ -11,3 +11,5 @@ mod knapsacks;
 mod mill;
 #[cfg(test)]
 mod prices;
+#[cfg(test)]
+mod tables;

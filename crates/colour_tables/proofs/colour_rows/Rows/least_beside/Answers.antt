@@ -1,0 +1,25 @@
+use Rattle.std.proofs.Common.{◌∷◌, [], length, arith, get_or, pos, SFits, w64, to_z-of_z, rules}
+use Rattle.colour_tables.specs.Colours.{but_for}
+use Rattle.set_minima.proofs.CellNumbers.{near-wider}
+use Rattle.colour_tables.proofs.SlacksFromTables.{least-over}
+use Rattle.colour_tables.proofs.colour_rows.Rows.least_beside.Goals as goal
+use Rattle.colour_tables.specs.Entries.{table_limit}
+
+pub least-requires-clause-near : goal.least-requires-clause-near
+least-requires-clause-near c l =
+    near-wider table_limit table_limit (get_or c.put_beside.new.table l (pos 0)) (omega
+    arith)
+    (c.put_beside.ensures.near l)
+
+pub returns : goal.returns
+returns c = record {
+  is = λ rest prices name charge largest base rows run at room charged.
+      let f : SFits w64 c.least.result = search rules in
+      let e = c.least.ensures.top in
+      simp to_z-of_z (least-over rest prices charge largest base (length c.args.table.now)
+      (length c.put_beside.new.table) (but_for c.args.skip) (name c.args.c ∷ []) c.args.charges.now
+      c.put_beside.new.table
+      c.least.result c.put_beside.auto.table room charged
+      (c.put_beside.ensures.is rest prices name rows run at)
+      (λ p q. e (but_for c.args.skip) (name c.args.c ∷ []) 2 rest prices charge base p q));
+}

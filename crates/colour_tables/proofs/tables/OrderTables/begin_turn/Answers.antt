@@ -1,0 +1,90 @@
+use Rattle.std.proofs.Common.{ℕ, ◌≡◌, ◌∙◌, ◌+◌, ◌<◌, true, false, map, length, get_or, refl, sym}
+use Rattle.std.proofs.Common.{ap, subst, rules}
+use Rattle.std.proofs.Common.{eqb, eq-eqb}
+use Rattle.std.proofs.lemmas.List.{with_items_is}
+use Rattle.list_laws.specs.Sets.{holds}
+use Rattle.list_laws.proofs.Tests.{clash}
+use Rattle.list_laws.proofs.Different.{below-holds}
+use Rattle.set_minima.specs.Packs.{colour_at}
+use Rattle.set_minima.specs.Cells.{AreNear}
+use Rattle.colour_tables.specs.PricedOrders.{PricedOrders}
+use Rattle.colour_tables.proofs.KnownColours.{absent}
+use Rattle.colour_tables.proofs.TurnTables.{turn-from}
+use Rattle.colour_tables.proofs.tables.OrderTables.begin_turn.Goals as goal
+use Rattle.mill_model.specs.Limits.{all_prices}
+use Rattle.colour_tables.specs.Entries.{table_limit}
+
+pub begin_turn-requires-clause-colour : goal.begin_turn-requires-clause-colour
+begin_turn-requires-clause-colour c =
+    let t = c.self.inside in
+    subst (λ xs. holds c.in-Some.colour xs ≡ true) (sym c.self.invariant.present)
+    (below-holds c.in-Some.colour (length t.colours.items)
+    (subst (λ xs. c.in-Some.colour < length xs) c.deref.ensures.value
+    (c.in-Some.ensures.found c.in-Some.colour refl)))
+
+pub returns-in-Some-clause-turn : goal.returns-in-Some-clause-turn
+returns-in-Some-clause-turn c =
+    let t = c.self.inside in
+    let i = c.self.invariant in
+    let d = c.in-Some.colour in
+    let name : ℕ → ℕ = λ c. get_or t.colours.items c 0 in
+    let here : c.args.place < length t.rest.now =
+    subst (λ (o : PricedOrders). c.args.place < length o.rest) (sym c.self.view_is)
+    c.requires.here in
+    let at : colour_at t.rest.now c.args.place ≡ get_or t.colours.items c.in-Some.colour 0 =
+    sym (subst (λ xs. get_or xs c.in-Some.colour 0 ≡ colour_at t.rest.now c.args.place)
+    c.deref.ensures.value (c.in-Some.ensures.is c.in-Some.colour refl)) in
+    let long : length c.args.turn.now.alone.items ≡ t.largest + 1 =
+    subst (λ (o : PricedOrders). length c.args.turn.now.alone.items ≡ o.largest + 1)
+    (sym c.self.view_is) c.requires.alone in
+    let wide : length c.args.turn.now.beside.items ≡ t.largest + 1 =
+    subst (λ (o : PricedOrders). length c.args.turn.now.beside.items ≡ o.largest + 1)
+    (sym c.self.view_is) c.requires.beside in
+    let n : length c.begin_turn.new.alone ≡ length c.args.turn.now.alone.items = search rules in
+    let m : length c.begin_turn.new.beside ≡ length c.args.turn.now.beside.items = search rules in
+    let k : length c.begin_turn.new.alone ≡ c.args.turn.now.alone.len = search rules in
+    let l : length c.begin_turn.new.beside ≡ c.args.turn.now.beside.len = search rules in
+    let e = with_items_is c.args.turn.now.alone c.begin_turn.new.alone k in
+    let f = with_items_is c.args.turn.now.beside c.begin_turn.new.beside l in
+    rw (← c.self.view_is) (record {
+      tables =
+          turn-from t.rest.now t.prices.items name t.rows.width (t.largest + 1) d c.args.place
+          c.begin_turn.new.alone c.begin_turn.new.beside _ _ (sym i.width) e f
+          (c.begin_turn.ensures.is t.rest.now t.prices.items name i.row_tables i.run_orders here
+          at);
+      known = (below-holds c.in-Some.colour (length t.colours.items)
+          (subst (λ xs. c.in-Some.colour < length xs) c.deref.ensures.value
+          (c.in-Some.ensures.found c.in-Some.colour refl)));
+      alone = ap length e ∙ n ∙ long;
+      beside = ap length f ∙ m ∙ wide;
+      near = subst (λ xs. AreNear all_prices xs) (sym e) c.begin_turn.ensures.alone;
+      around = subst (λ xs. AreNear table_limit xs) (sym f) c.begin_turn.ensures.beside;
+    })
+
+pub returns-in-None-clause-turn : goal.returns-in-None-clause-turn
+returns-in-None-clause-turn c =
+    let t = c.self.inside in
+    let all = subst (λ xs. (i : ℕ) → i < length t.rest.now →
+    holds (colour_at t.rest.now i) (map (λ c. get_or t.colours.items c 0) xs) ≡ true)
+    c.self.invariant.present c.self.invariant.row_tables.all in
+    let here : c.args.place < length t.rest.now =
+    subst (λ (o : PricedOrders). c.args.place < length o.rest) (sym c.self.view_is)
+    c.requires.here in
+    let x = colour_at t.rest.now c.args.place in
+    absurd (clash (eqb x x) (eq-eqb x x refl) (absent t.rest.now t.colours.items all x
+    (subst (λ xs. holds x xs ≡ false) c.deref.ensures.value (c.in-None.ensures.none refl))
+    c.args.place here))
+
+pub returns-in-None-clause-place : goal.returns-in-None-clause-place
+returns-in-None-clause-place c =
+    let t = c.self.inside in
+    let all = subst (λ xs. (i : ℕ) → i < length t.rest.now →
+    holds (colour_at t.rest.now i) (map (λ c. get_or t.colours.items c 0) xs) ≡ true)
+    c.self.invariant.present c.self.invariant.row_tables.all in
+    let here : c.args.place < length t.rest.now =
+    subst (λ (o : PricedOrders). c.args.place < length o.rest) (sym c.self.view_is)
+    c.requires.here in
+    let x = colour_at t.rest.now c.args.place in
+    absurd (clash (eqb x x) (eq-eqb x x refl) (absent t.rest.now t.colours.items all x
+    (subst (λ xs. holds x xs ≡ false) c.deref.ensures.value (c.in-None.ensures.none refl))
+    c.args.place here))

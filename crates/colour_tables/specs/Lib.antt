@@ -1,0 +1,10 @@
+pub mod Entries
+pub mod Threes
+pub mod Colours
+pub mod Items
+pub mod Rowed
+pub mod Leasts
+pub mod Owned
+pub mod Stretches
+pub mod PricedOrders
+pub mod Grouped

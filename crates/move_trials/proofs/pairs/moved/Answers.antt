@@ -1,10 +1,9 @@
 -- The ranked orders are those of the instance alone.
-use Rattle.std.proofs.Common.{◌≡◌, List, slice_index, subst, sym, ◌∙◌}
+use Rattle.std.proofs.Common.{◌≡◌, subst, sym, ◌∙◌}
 use Rattle.mill_model.specs.Charges.{charge_of}
 use Rattle.mill_model.specs.Instance.{mill_of}
 use Rattle.mill_model.specs.Plan.{IsPlanWithLoss}
 use Rattle.mill_model.specs.Slab.{Mill}
-use Rattle.mill_model.specs.declared.order.Order.{Order}
 use Rattle.move_trials.proofs.SameFile.{same-file}
 use Rattle.move_trials.proofs.pairs.moved.Goals as goal
 

@@ -5,3 +5,6 @@ mod Walk
 mod Children
 pub mod Nodes
 pub mod Losses
+pub mod Live
+pub mod Coming
+pub mod LiveGroups

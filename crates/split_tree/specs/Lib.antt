@@ -1,2 +1,4 @@
 pub mod Node
 pub mod Groups
+pub mod Keys
+pub mod KeyLaws

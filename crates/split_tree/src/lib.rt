@@ -2,9 +2,11 @@
 #![tactic(auto)]
 
 mod groups;
+mod live_key;
 mod node;
 #[cfg(test)]
 mod tests;
 
 pub use groups::join_group;
+pub use live_key::{KeyGroup, LiveKey, NO_COLOUR};
 pub use node::NodeState;

@@ -108,3 +108,51 @@ fn a_leaf_has_its_groups_and_its_plan(rt: HostRuntime) -> Result<(), Fail> {
     assert_eq!(rt; node.plan_of_leaf(alloc)?.slabs(), [1, 0, 0].as_slice());
     Ok(())
 }
+
+#[test]
+fn live_keys_of_two_paths(rt: HostRuntime) -> Result<(), Fail> {
+    let alloc = rt.alloc();
+    let ranked = ranked_of(alloc, &[(1, 1), (1, 2), (2, 3)])?;
+    let charges = Charges::from_list(vec![in alloc; 0, 3, 2, 1, 0]?);
+    // The group of load 3 has two colours, and neither is that of the last order.
+    let full = node_at(alloc, &ranked, &[0, 0])?;
+    assert_eq!(rt; full.live_key(alloc)?.groups().len(), 0);
+    assert_eq!(rt; full.ranked().largest(), 4);
+    assert_eq!(rt; full.dead_loss(&charges), 1);
+    let apart = node_at(alloc, &ranked, &[0, 1])?;
+    let key = apart.live_key(alloc)?;
+    assert_eq!(rt; key.depth(), 2);
+    let mut loads = Vec::new(alloc);
+    for group in key.groups() {
+        loads.push((group.load, group.colours))?;
+        assert_eq!(rt; group.coming, [NO_COLOUR; 8]);
+    }
+    assert_eq!(rt; loads.as_slice(), [(1, 1), (2, 1)].as_slice());
+    assert_eq!(rt; apart.ranked().largest(), 4);
+    assert_eq!(rt; apart.dead_loss(&charges), 0);
+    assert!(rt; key != full.live_key(alloc)?);
+    Ok(())
+}
+
+#[test]
+fn a_colour_that_comes_again_is_in_the_key(rt: HostRuntime) -> Result<(), Fail> {
+    let alloc = rt.alloc();
+    let ranked = ranked_of(alloc, &[(2, 7), (1, 3), (1, 3), (1, 7)])?;
+    // In rank: (2, 7), (1, 3), (1, 3), (1, 7).
+    let node = node_at(alloc, &ranked, &[0, 0])?;
+    let key = node.live_key(alloc)?;
+    assert_eq!(rt; key.groups().len(), 1);
+    for group in key.groups() {
+        assert_eq!(rt; (group.load, group.colours), (3, 2));
+        assert_eq!(rt;
+            group.coming,
+            [
+                3, 7, NO_COLOUR, NO_COLOUR, NO_COLOUR, NO_COLOUR, NO_COLOUR, NO_COLOUR
+            ]
+        );
+    }
+    let other = node_at(alloc, &ranked, &[0, 1])?;
+    assert!(rt; other.live_key(alloc)? != key);
+    assert!(rt; node.live_key(alloc)? == key);
+    Ok(())
+}

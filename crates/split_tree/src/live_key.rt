@@ -64,6 +64,16 @@ impl LiveKey {
     {
         &self.groups
     }
+
+    /// The same key once more.
+    pub fn copy(&self) -> Result<LiveKey, OutOfMemory>
+        ensures { IfOk result (λ key. key ≡ self.now) }
+    {
+        Ok(LiveKey {
+            depth: self.depth,
+            groups: self.groups.to_vec(*self.groups.allocator())?,
+        })
+    }
 }
 
 impl PartialEq for LiveKey {

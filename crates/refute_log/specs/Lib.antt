@@ -3,3 +3,4 @@ pub mod Fits
 pub mod Logged
 pub mod Text
 pub mod Judged
+pub mod Pieces

@@ -1,7 +1,9 @@
 -- The best entry of a key is found where its dead loss is low enough, and stays the best until a
 -- lesser one is noted.
-use Rattle.std.proofs.Common.{ℕ, zero, suc, ◌+◌, ◌<◌, ◌≤◌, ◌≡◌, ◌≢◌, Bool, true, false, cond, ◌&&◌, leb}
-use Rattle.std.proofs.Common.{List, [], ◌∷◌, ◌++◌, length, Option, Some, None, refl, sym, ap, ap₂, ◌∙◌}
+use Rattle.std.proofs.Common.{ℕ, zero, suc, ◌+◌, ◌<◌, ◌≤◌, ◌≡◌, ◌≢◌, Bool, true, false, cond, ◌&&◌}
+use Rattle.std.proofs.Common.{leb}
+use Rattle.std.proofs.Common.{List, [], ◌∷◌, ◌++◌, length, Option, Some, None, refl, sym, ap, ap₂}
+use Rattle.std.proofs.Common.{◌∙◌}
 use Rattle.std.proofs.Common.{arith, inl, inr, le-leb, leb-true, length-append, subst}
 use Rattle.std.specs.Prelude.{slice_get, option_copied}
 use Rattle.std.specs.Ordering.{is_eq}
@@ -29,7 +31,8 @@ pub found-bounded : (entries : List Entry) (key : Key) (dead : ℕ) →
     found entries key dead ≡ bounded (best entries key) dead
 found-bounded [] key dead = refl
 found-bounded (e ∷ entries) key dead =
-    go (same_key key e.key) (leb e.dead dead) refl (best entries key) (found-bounded entries key dead)
+    go (same_key key e.key) (leb e.dead dead) refl (best entries key)
+    (found-bounded entries key dead)
   where
     go : (same low : Bool) → leb e.dead dead ≡ low → (r : Option Entry) →
         found entries key dead ≡ bounded r dead →
@@ -98,7 +101,8 @@ best-more (x ∷ entries) e key =
     go false true r ih = ih
     go false false r ih = ih
 
-best-same : (entries : List Entry) (a b : Key) → same_key a b ≡ true → best entries a ≡ best entries b
+best-same : (entries : List Entry) (a b : Key) → same_key a b ≡ true →
+    best entries a ≡ best entries b
 best-same [] a b e = refl
 best-same (x ∷ entries) a b e =
     ap₂ (λ s r. cond s (lesser x r) r) (key_equal.congr a b x.key e) (best-same entries a b e)

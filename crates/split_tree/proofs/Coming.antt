@@ -1,7 +1,8 @@
 -- The coming colours of a group stand in eight places, since they rise and are among its colours.
 use Rattle.std.proofs.Common.{ℕ, zero, suc, ◌+◌, ◌-◌, ◌<◌, ◌≤◌, ◌≡◌, Bool, true, false, cond}
 use Rattle.std.proofs.Common.{List, [], ◌∷◌, ◌++◌, filter, length, take, set, replicate, Some, None}
-use Rattle.std.proofs.Common.{refl, sym, ap, ◌∙◌, arith, eqb, eqb-true, inl, inr, length-append, append-nil}
+use Rattle.std.proofs.Common.{refl, sym, ap, ◌∙◌, arith, eqb, eqb-true, inl, inr, length-append}
+use Rattle.std.proofs.Common.{append-nil}
 use Rattle.std.specs.List.{slice_get}
 use Rattle.std.specs.List.Sorted.{IsStrictlyIncreasing}
 use Rattle.list_laws.specs.Sets.{holds, different}
@@ -41,7 +42,8 @@ passed-more p (y ∷ xs) zero x e = rw (same e) (last (p x))
     last b = refl
 passed-more p (y ∷ xs) (suc i) x e = front (p y) (passed-more p xs i x e)
   where
-    front : (b : Bool) → filter p (take (suc i) xs) ≡ filter p (take i xs) ++ cond (p x) (x ∷ []) [] →
+    front : (b : Bool) →
+        filter p (take (suc i) xs) ≡ filter p (take i xs) ++ cond (p x) (x ∷ []) [] →
         cond b (y ∷ filter p (take (suc i) xs)) (filter p (take (suc i) xs))
         ≡ cond b (y ∷ filter p (take i xs)) (filter p (take i xs)) ++ cond (p x) (x ∷ []) []
     front true ih = ap (λ l. y ∷ l) ih

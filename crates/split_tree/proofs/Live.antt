@@ -1,6 +1,7 @@
 -- Whether some order from a rank on passes a test, and the colours of those orders.
 use Rattle.std.proofs.Common.{ℕ, zero, suc, ◌+◌, ◌<◌, ◌≤◌, ◌≡◌, Bool, true, false, List, [], ◌∷◌}
-use Rattle.std.proofs.Common.{drop, length, Some, None, refl, sym, ap, ◌∙◌, arith, map, ◌++◌, append_assoc}
+use Rattle.std.proofs.Common.{drop, length, Some, None, refl, sym, ap, ◌∙◌, arith, map, ◌++◌}
+use Rattle.std.proofs.Common.{append_assoc}
 use Rattle.std.specs.List.{list_any, slice_get}
 use Rattle.list_laws.proofs.Tests.{or-left, or-right}
 

@@ -1,5 +1,5 @@
--- Live keys as they are kept: the live groups in one order, each with those of its colours that some
--- later order has, rising.
+-- Live keys as they are kept: the live groups in one order, each with those of its colours that
+-- some later order has, rising.
 use Rattle.std.specs.Prelude.{ℕ, ◌-◌, ◌≡◌, Bool, List, ◌++◌, map, filter, length, replicate}
 use Rattle.std.specs.Prelude.{Contains}
 use Rattle.std.specs.List.Sorted.{IsPermutation, IsSortedByKey, IsStrictlyIncreasing}
@@ -62,7 +62,8 @@ rest_of node = later_orders (orders_of node.ranked) node.path
 -- the numbers of the live groups of a node
 abbrev pub live_numbers : Node → List ℕ
 live_numbers node =
-    filter (has_live node.ranked.mill (orders_of node.ranked) node.path) (below (next_new node.path))
+    filter (has_live node.ranked.mill (orders_of node.ranked) node.path)
+    (below (next_new node.path))
 
 -- a key is that of a node: its groups are the live groups of the node in order
 pub record IsLiveKey (node : Node) (key : Key) : Type 0 where

@@ -1,4 +1,5 @@
-use Rattle.std.proofs.Common.{rules, ◌≡◌, ◌++◌, ◌∷◌, [], List, ℕ, length, Some, cond, sym, ap, ◌∙◌, true}
+use Rattle.std.proofs.Common.{rules, ◌≡◌, ◌++◌, ◌∷◌, [], List, ℕ, length, Some, cond, sym, ap, ◌∙◌}
+use Rattle.std.proofs.Common.{true}
 use Rattle.std.proofs.Common.{subst, false, arith}
 use Rattle.std.specs.BTreeMap.{BTreeMap, get, is_at, Updates}
 use Rattle.split_tree.specs.Keys.{Key, key_order}
@@ -7,7 +8,8 @@ use Rattle.nogood_store.specs.Places.{HasBest}
 use Rattle.nogood_store.specs.declared.store.Entry.{Entry}
 use Rattle.nogood_store.proofs.Bests.{noted-before, noted-behind}
 use Rattle.nogood_store.proofs.store.Store.note.Goals as goal
-use Rattle.nogood_store.proofs.store.Store.note.Goals.{then-is_better+in-Ok+else-is_err-2, else-is_better}
+use Rattle.nogood_store.proofs.store.Store.note.Goals.{then-is_better+in-Ok+else-is_err-2}
+use Rattle.nogood_store.proofs.store.Store.note.Goals.{else-is_better}
 
 pub invariant_of-self-3 : goal.invariant_of-self-3
 invariant_of-self-3 c =
@@ -16,7 +18,8 @@ invariant_of-self-3 c =
     elim c.if-is_better.branch [
       | then-is_better+in-Ok+else-is_err-2 w ↦ (
           let none : is_none (found entries entry.key entry.dead) ≡ true = search rules in
-          let put : Updates key_order c.self.inside.places c.if-is_better.self-inside.places entry.key
+          let put : Updates key_order c.self.inside.places c.if-is_better.self-inside.places
+          entry.key
           (Some (length entries)) = search rules in
           let noted : c.push_reserved.new.self.items ≡ entries ++ entry ∷ [] = search rules in
           subst (HasBest c.if-is_better.self-inside.places) (sym noted)

@@ -53,7 +53,8 @@ loop-slab-preserved c =
     let group : IsGroup node i c.slab-item.result =
     group-at node c.groups-slab-items.result.now c.groups-slab-items.ensures.is i
     c.slab-item.result c.loop-slab-test.true c.slab-item.is in
-    let live : c.is_live.result ≡ lives node i = c.is_live.ensures (group_of node i) group.carries in
+    let live : c.is_live.result ≡ lives node i =
+    c.is_live.ensures (group_of node i) group.carries in
     let sum : c.loop-slab.loss ≡ dead_below node charge i = c.loop-slab.invariant.sum in
     elim c.if-not-is_live.branch [
       | then-not-is_live w ↦ (

@@ -27,11 +27,13 @@ loop-slab-preserved c =
     let group : IsGroup node i c.slab-item.result =
     group-at node c.groups-slab-items.result.now c.groups-slab-items.ensures.is i
     c.slab-item.result c.loop-slab-test.true c.slab-item.is in
-    let live : c.is_live.result ≡ lives node i = c.is_live.ensures (group_of node i) group.carries in
+    let live : c.is_live.result ≡ lives node i =
+    c.is_live.ensures (group_of node i) group.carries in
     elim c.if-is_live.branch [
       | then-is_live+in_ok-push w ↦ (
           let key : w.key_group.result ≡ key_group coming (group_of node i) = search rules in
-          let pushed : c.if-is_live.groups.items ≡ c.loop-slab.groups.items ++ w.key_group.result ∷ [] =
+          let pushed : c.if-is_live.groups.items
+          ≡ c.loop-slab.groups.items ++ w.key_group.result ∷ [] =
           search rules in
           pushed ∙ ap (λ k. c.loop-slab.groups.items ++ k ∷ []) key
           ∙ ap (λ l. l ++ key_group coming (group_of node i) ∷ []) c.loop-slab.invariant

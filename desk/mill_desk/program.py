@@ -172,7 +172,7 @@ def not_built(wrapper: Path, why: str) -> str:
     """What to do where the program isn't built."""
     return (f'The program {why}. The desk starts no proof by itself: run\n  {wrapper} solve '
             f'< {wrapper.parent}/examples/three-orders.txt\nonce. It proves and builds the '
-            'program (some 10 to 20 minutes, all processors; it needs the kit). Or name a program '
+            'program (some 15 to 30 minutes, all processors; it needs the kit). Or name a program '
             'by --program FILE.')
 
 

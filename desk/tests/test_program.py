@@ -132,7 +132,7 @@ class Finding(InFolder):
         told = str(caught.exception)
         self.assertIn('The program isn\'t built yet. The desk starts no proof by itself: run',
                       told)
-        self.assertIn('10 to 20 minutes', told)
+        self.assertIn('15 to 30 minutes', told)
 
     def test_a_program_that_is_older_than_a_source(self) -> None:
         top = self.repository()

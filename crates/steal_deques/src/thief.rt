@@ -39,9 +39,9 @@ impl Model for Thief {
 }
 
 impl Thief {
-    /// Tries once to take the first path of the deque. It takes none only where the deque had one
-    /// path at most, or where it lost the try to another taker, which `passed` counts up to the
-    /// greatest u64.
+    /// Tries once to take the first path of the deque. With None either the deque had one path at
+    /// most, or `passed` is one more, up to the greatest u64: that counts the tries which the deque
+    /// answers as lost to another taker.
     pub fn steal(&mut self) -> Option<Path>
         ensures stolen { IfSome result (λ path. self.new
             ≡ record self.old { stolen = self.old.stolen ++ path ∷ [] }) }

@@ -1,3 +1,6 @@
+// The knapsack over later orders: tables that are made once, and the least slacks that they give,
+// of new slabs and of slabs with orders, over all sets or those with or without one order.
+
 ghost use Rattle.std.specs.Prelude.{◌≡◌, ℕ, ℤ, List, [], All, Option, Some, None, pos, neg_ℤ};
 ghost use Rattle.std.specs.Prelude.{◌+◌, ◌*◌, ◌^◌, ◌<◌, ◌≤◌, length, drop, IfOk, IfSome};
 ghost use Rattle.std.specs.Prelude.{slice_index_or};

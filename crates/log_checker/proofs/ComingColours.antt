@@ -22,10 +22,10 @@ use Rattle.log_checker.specs.Keys.{AreComing}
 use Rattle.list_laws.proofs.InOrder.{InOrder, in-order-from, times-moved}
 
 -- one colour more in front of the padding
-pub note-step : (xs : List ℕ) (n c : ℕ) → set (xs ++ replicate (suc n) 65535) (length xs) c
+pub one-more-noted : (xs : List ℕ) (n c : ℕ) → set (xs ++ replicate (suc n) 65535) (length xs) c
     ≡ (xs ++ c ∷ []) ++ replicate n 65535
-note-step [] n c = refl
-note-step (x ∷ xs) n c = ap (λ l. x ∷ l) (note-step xs n c)
+one-more-noted [] n c = refl
+one-more-noted (x ∷ xs) n c = ap (λ l. x ∷ l) (one-more-noted xs n c)
 
 pub note-more : (test : ℕ → Bool) (colours coming new : List ℕ) (i count next : ℕ) (c : ℕ)
     (comes : Bool) → i < length colours → c ≡ get_or colours i 0 → comes ≡ test c →
@@ -60,7 +60,8 @@ note-more test colours coming new i count next c comes h e t n few is there not_
           omega (arith, w.1, ap length p),
           w.0 ∙ ap (λ xs. set xs count c) (is ∙ ap (λ k. first ++ replicate k 65535) m)
               ∙ ap (λ k. set (first ++ replicate (suc (8 - next)) 65535) k c) n
-              ∙ note-step first (8 - next) c ∙ ap (λ l. l ++ replicate (8 - next) 65535) (sym p),
+              ∙ one-more-noted first (8 - next) c
+              ∙ ap (λ l. l ++ replicate (8 - next) 65535) (sym p),
         )
     go false q =
         let w = not_there q in

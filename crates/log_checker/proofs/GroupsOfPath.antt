@@ -86,6 +86,12 @@ pub may_be-legal : (mill : Mill) (seen : Seen) (orders : List Order) → IsSeen 
 may_be-legal mill seen orders s =
     ap₂ (λ a b. leb a mill.largest && leb b mill.most_colours) s.weighs s.counts
 
+-- an order that is put in front of both or of none
+put-in-or-not : (o : Order) (b : Bool) (x y z : List Order) → x ≡ y ++ z →
+    cond b (o ∷ x) x ≡ cond b (o ∷ y) y ++ z
+put-in-or-not o true x y z e = ap (λ l. o ∷ l) e
+put-in-or-not o false x y z e = e
+
 -- one more order of the slabs
 pub slab-more : (s i : ℕ) (plan : List ℕ) (orders : List Order) (d : Order) → i < length plan →
     i < length orders → slab s (take (suc i) plan) orders ≡ slab s (take i plan) orders
@@ -97,12 +103,8 @@ slab-more s (suc i) (t ∷ plan) (o ∷ orders) d h k =
     let ih : slab s (take (suc i) plan) orders ≡ slab s (take i plan) orders
     ++ cond (eqb s (get_or plan i 0)) (get_or orders i d ∷ []) [] =
     slab-more s i plan orders d (omega arith) (omega arith) in
-    step (eqb s t) (slab s (take (suc i) plan) orders) (slab s (take i plan) orders)
+    put-in-or-not o (eqb s t) (slab s (take (suc i) plan) orders) (slab s (take i plan) orders)
     (cond (eqb s (get_or plan i 0)) (get_or orders i d ∷ []) []) ih
-  where
-    step : (b : Bool) (x y z : List Order) → x ≡ y ++ z → cond b (o ∷ x) x ≡ cond b (o ∷ y) y ++ z
-    step true x y z e = ap (λ l. o ∷ l) e
-    step false x y z e = e
 
 pub number-below : (i : ℕ) (path : List ℕ) → i < length path → get_or path i 0 < next_new path
 number-below i [] h = absurd (omega arith)
@@ -217,9 +219,5 @@ slab-next g [] [] d h = absurd (omega arith)
 slab-next g [] (o ∷ ranked) d h = let e : eqb g g ≡ true = eq-eqb g g refl in rw e refl
 slab-next g (x ∷ path) [] d h = absurd (omega arith)
 slab-next g (x ∷ path) (o ∷ ranked) d h =
-    step (eqb g x) (slab g (path ++ g ∷ []) ranked) (slab g path ranked)
+    put-in-or-not o (eqb g x) (slab g (path ++ g ∷ []) ranked) (slab g path ranked)
     (get_or ranked (length path) d ∷ []) (slab-next g path ranked d (omega arith))
-  where
-    step : (b : Bool) (x y z : List Order) → x ≡ y ++ z → cond b (o ∷ x) x ≡ cond b (o ∷ y) y ++ z
-    step true x y z e = ap (λ l. o ∷ l) e
-    step false x y z e = e

@@ -222,12 +222,12 @@ module _ (task : Task) (bound : ℕ) (log done : List Entry) (paths : List (List
       ]
 
 -- the next place of a pass, past a record that is expected and holds up
-step : (task : Task) (bound : ℕ) (log done : List Entry) (path : List ℕ) (paths : List (List ℕ))
-    (e : Entry) (rest : List Entry) → rises (recorded log) ≡ true →
+record-passed : (task : Task) (bound : ℕ) (log done : List Entry) (path : List ℕ)
+    (paths : List (List ℕ)) (e : Entry) (rest : List Entry) → rises (recorded log) ≡ true →
     IsAt task bound log done (path ∷ paths) (e ∷ rest) → path ≡ e.path →
     holds_up task bound log e ≡ true →
     IsAt task bound log (done ++ e ∷ []) (left_open task e.path e.closing ++ paths) rest
-step task bound log done path paths e rest up it q h = record {
+record-passed task bound log done path paths e rest up it q h = record {
   whole = it.whole ∙ sym (append_assoc done (e ∷ []) rest);
   counts = λ p.
       let a : wants_of task (done ++ e ∷ []) p ≡ wants_of task done p + times same_list p
@@ -424,7 +424,7 @@ pass-finds task bound log done (path ∷ paths) (e ∷ rest) up it =
           elim (either (holds_up task bound log e)) [
             | inl h ↦ rw (s, h) (pass-finds task bound log (done
                 ++ e ∷ []) (left_open task e.path e.closing
-                ++ paths) rest up (step task bound log done path paths e rest up it q h))
+                ++ paths) rest up (record-passed task bound log done path paths e rest up it q h))
             | inr h ↦ rw (s, h) (unsound-here task bound log done path paths e rest up it q h)
           ])
       | inr s ↦ elim (either (comes_before path e.path)) [

@@ -228,13 +228,14 @@ charged-first its prices sorted slack g same s h e = go (is_alive g) refl
         prices same dead))
 
 -- one live group more has its slack
-pub slack-step : (slack : ℕ → ℤ) (live : List LiveGroup) (old new : List ℤ) (i n h : ℕ) (z : ℤ) →
+pub slack-of-one-more : (slack : ℕ → ℤ) (live : List LiveGroup) (old new : List ℤ) (i n h : ℕ)
+    (z : ℤ) →
     i < length live → h ≡ (get_or live i no_live).group → h < n → length old ≡ n → z ≡ slack h →
     new ≡ set old h z →
     ((g : ℕ) → g < n → (get_or old g (pos 0) ≡ slack g) ⊎ Among g (map group_in (drop i live))) →
     (g : ℕ) → g < n →
     (get_or new g (pos 0) ≡ slack g) ⊎ Among g (map group_in (drop (i + 1) live))
-slack-step slack live old new i n h z here at inside long is set each g l =
+slack-of-one-more slack live old new i n h z here at inside long is set each g l =
     elim (either (eqb g h)) [
       | inl e ↦ (let q : g ≡ h = eqb-true g h e in
           inl (ap (λ k. get_or new k (pos 0)) q ∙ ap (λ xs. get_or xs h (pos 0)) set

@@ -33,12 +33,12 @@ opened-is test parent top (suc j) h =
     Child parent g) (filter test (span (top - j) j)) =
     opened-is test parent top j (omega arith) in
     let e : suc (top - suc j) ≡ top - j = omega arith in
-    rw (reverse-append, ih, e) (step (test (top - suc j)) (filter test (span (top - j) j)))
+    rw (reverse-append, ih, e) (one-or-none (test (top - suc j)) (filter test (span (top - j) j)))
   where
-    step : (b : Bool) (xs : List ℕ) → reverse (cond b (Child parent (top - suc j) ∷ []) [])
+    one-or-none : (b : Bool) (xs : List ℕ) → reverse (cond b (Child parent (top - suc j) ∷ []) [])
         ++ map (λ g. Child parent g) xs ≡ map (λ g. Child parent g) (cond b ((top - suc j) ∷ xs) xs)
-    step true xs = refl
-    step false xs = refl
+    one-or-none true xs = refl
+    one-or-none false xs = refl
 
 children-of : (log : List Entry) (parent : ℕ) (xs : List ℕ) →
     map (wanted_path log) (map (λ g. Child parent g) xs) ≡ map (λ g. get_or (recorded log) parent []

@@ -1,3 +1,5 @@
+// The store: entries in the order of noting, and of each key the place of its best entry.
+
 ghost use Rattle.std.specs.Prelude.{◌≡◌, ◌≢◌, ◌<◌, ◌≤◌, ◌++◌, ◌∷◌, [], length, option_copied};
 ghost use Rattle.nogood_store.specs.Entries.{Stored, found, is_none, path_of};
 ghost use Rattle.nogood_store.specs.declared.store.Entry.{Entry};

@@ -34,8 +34,8 @@ pub struct KeyGroup {
     pub coming: [u16; 8],
 }
 
-/// How many orders a path has placed, and its live groups in order. Two keys of paths of one tree
-/// are equal exactly where the paths' live keys are.
+/// How many orders a path has placed, and its live groups in one order, as the orders to come see
+/// them.
 #[derive(Debug, Drop)]
 pub struct LiveKey {
     depth: u16,

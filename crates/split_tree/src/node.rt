@@ -1,3 +1,5 @@
+// A node of the tree of paths: its groups, its children, and the plan of a leaf.
+
 ghost use Rattle.std.specs.Prelude.{◌≡◌, ◌<◌, ◌≤◌, ◌+◌, ◌++◌, ◌∷◌, [], List, true, All};
 ghost use Rattle.std.specs.Prelude.{length, slice_index, IfOk};
 ghost use Rattle.mill_model.specs.Charges.{Reaches, charge_of};

@@ -9,7 +9,8 @@ use Rattle.log_checker.specs.ByRules.{mill_by}
 use Rattle.log_checker.specs.PathGroups.{later}
 use Rattle.log_checker.specs.Slacks.{slack_of, no_live}
 use Rattle.log_checker.specs.declared.keys.LiveGroup.{LiveGroup}
-use Rattle.log_checker.proofs.SlacksOfGroups.{charged-first, slack-step, slack-last, sorted-lives}
+use Rattle.log_checker.proofs.SlacksOfGroups.{charged-first, slack-of-one-more, slack-last}
+use Rattle.log_checker.proofs.SlacksOfGroups.{sorted-lives}
 use Rattle.log_checker.proofs.priced.slacks_of.Goals as goal
 
 pub loop-i-init : goal.loop-i-init
@@ -55,7 +56,7 @@ loop-i-preserved c =
       long = ap length set_is ∙ length-set c.loop-i.slacks.items h z ∙ c.loop-i.invariant.long;
       small = subst (All (IsSmall slack_limit)) (sym set_is) (All-set (IsSmall slack_limit)
           c.loop-i.slacks.items h z (c.requires.least.small i here) c.loop-i.invariant.small);
-      each = slack-step (slack_of its c.args.prices.now) live c.loop-i.slacks.items
+      each = slack-of-one-more (slack_of its c.args.prices.now) live c.loop-i.slacks.items
           c.set_slack.new.slacks.items i (length its.groups.items) h z here refl l.0
           c.loop-i.invariant.long (c.requires.least.each i here) set_is c.loop-i.invariant.each;
     }

@@ -95,7 +95,7 @@ impl<'a> ColourTables<'a> {
     /// largest size of the mill is `largest`.
     pub fn new(
         alloc: Global,
-        orders: &'a [Order],
+        orders: &[Order],
         prices: &[i64],
         groups: &'a [OpenSlab],
         charges: &'a Charges,

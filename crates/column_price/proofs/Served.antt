@@ -1,5 +1,5 @@
 -- What tables that serve a pricing say of it.
-use Rattle.std.proofs.Common.{ℕ, ◌<◌, ◌≡◌, true, List, length, get_or, ℤ, refl, sym, ap, ◌∙◌, subst}
+use Rattle.std.proofs.Common.{ℕ, ◌<◌, ◌≡◌, List, length, ℤ, ap, ◌∙◌, subst}
 use Rattle.std.proofs.Common.{arith}
 use Rattle.std.proofs.lemmas.List.{get_or_default}
 use Rattle.mill_model.specs.Charges.{ChargeTable, charge_of}
@@ -12,10 +12,9 @@ use Rattle.colour_tables.specs.Leasts.{two_colours}
 use Rattle.knap_bound.specs.Later.{Later}
 use Rattle.split_tree.specs.Node.{Node, AreGroups, IsGroup}
 use Rattle.split_tree.proofs.Losses.{group-at}
-use Rattle.column_price.specs.Nodes.{Pricing, IsAt, rest_of}
+use Rattle.column_price.specs.Nodes.{Pricing, rest_of}
 use Rattle.column_price.specs.Served.{Serves, AreOf}
-use Rattle.column_price.specs.declared.slacks.Tables.{Tables}
-use Rattle.column_price.specs.declared.slacks.Tables.TheVariants.{Colours, Layers}
+use Rattle.column_price.specs.declared.slacks.Tables.TheVariants.{Layers}
 use Rattle.column_price.proofs.AtNode.{of-pricing}
 
 -- the group at a place is that of the node

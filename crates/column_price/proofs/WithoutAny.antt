@@ -1,8 +1,8 @@
 -- Where no set that is legal with a group holds order i, the group's least slack is that over the
 -- sets without order i.
 use Rattle.std.proofs.Common.{ℕ, ◌≡◌, ◌≤ℤ◌, Bool, true, false, not, List, [], ◌∷◌, length, ℤ, refl}
-use Rattle.std.proofs.Common.{Option, Some, None, sym, ap, ◌∙◌, arith, inl, inr}
-use Rattle.std.proofs.Common.{◌≤◌, ◌++◌, map, filter}
+use Rattle.std.proofs.Common.{Some, None, ap, ◌∙◌, arith, inl, inr}
+use Rattle.std.proofs.Common.{◌≤◌, ◌++◌}
 use Rattle.std.proofs.lemmas.Int.{ints}
 use Rattle.std.proofs.lemmas.List.{get_or_past}
 use Rattle.list_laws.specs.Sets.{sets, chosen}
@@ -18,17 +18,11 @@ use Rattle.mill_model.specs.Prices.{slack, legal_sets, least_slack}
 use Rattle.mill_model.specs.Bounds.{in_set, slacks, least_of, least_on_with, least_on_without}
 use Rattle.mill_model.specs.Bounds.{or_zero}
 use Rattle.mill_model.specs.declared.order.Order.{Order}
-
-some-least : (x : ℤ) (xs : List ℤ) → Among x xs → least_of xs ≡ Some (or_zero (least_of xs))
-some-least x [] a = absurd a
-some-least x (y ∷ xs) a = refl
+use Rattle.column_price.proofs.SlacksKept.{same, some-least}
 
 none-among : (x : ℤ) (xs : List ℤ) → least_of xs ≡ None → Among x xs → ⊥
 none-among x [] e a = a
 none-among x (y ∷ xs) e a = absurd (cc)
-
-same : (x y : ℤ) → x ≤ℤ y → y ≤ℤ x → x ≡ y
-same x y h k = omega (arith, ints)
 
 -- where the least over the sets with order i is missing, no legal set holds it
 pub none-holds : (mill : Mill) (charge : ℕ → ℕ) (group rest : List Order) (prices : List ℤ)

@@ -1,7 +1,8 @@
 // The tables of two colours, asked with the orders' own prices.
 
-ghost use Rattle.std.specs.Prelude.{◌≡◌, ◌+◌, ◌<◌, List, Some, All, length, neg_ℤ, IfOk, IfSome};
+ghost use Rattle.std.specs.Prelude.{◌≡◌, ◌<◌, List, All, length, neg_ℤ, true, IfOk, IfSome};
 ghost use Rattle.colour_tables.specs.Grouped.{IsGroup};
+ghost use Rattle.colour_tables.specs.Leasts.{slack_limit as table_slack_limit};
 ghost use Rattle.mill_model.specs.Bounds.{least_new_with, least_on_with, least_on_without};
 ghost use Rattle.mill_model.specs.Charges.{Reaches, charge_of};
 ghost use Rattle.mill_model.specs.Limits.{IsPrice};
@@ -11,8 +12,6 @@ ghost use Rattle.set_minima.specs.Cells.{IsSmall, slack_limit};
 ghost use Rattle.set_minima.specs.Packs.{with_price};
 ghost use Rattle.column_price.specs.Nodes.{AreFor};
 ghost use Rattle.column_price.specs.Served.{AreOf};
-ghost use Rattle.std.specs.Prelude.{true};
-ghost use Rattle.colour_tables.specs.Leasts.{slack_limit as table_slack_limit};
 
 use colour_tables::ColourTables;
 use knap_bound::orders_from;

@@ -1,13 +1,11 @@
-use Rattle.std.proofs.Common.{◌≤◌, ◌<◌, ◌≡◌, ◌∙◌, ℕ, List, length, subst, sym, ap, get_or, arith}
+use Rattle.std.proofs.Common.{◌≤◌, ◌≡◌, ◌∙◌, List, length, subst, sym, arith}
 use Rattle.std.proofs.Common.{rules, drop}
 use Rattle.mill_model.specs.declared.order.Order.{Order}
 use Rattle.mill_model.specs.declared.order.TheConstants.{MAX_ORDERS}
-use Rattle.order_symmetry.specs.Ranked.{RankedOrders, orders_of}
-use Rattle.slab_rules.specs.OpenSlab.{OpenSlab, empty_on}
+use Rattle.order_symmetry.specs.Ranked.{orders_of}
 use Rattle.set_minima.specs.Joins.{AreOrders}
 use Rattle.set_minima.specs.Packs.{nobody}
 use Rattle.knap_bound.proofs.LaterOrders.{later-limits}
-use Rattle.colour_tables.specs.Grouped.{AreGroups, group_at}
 use Rattle.colour_tables.specs.Leasts.{two_colours}
 use Rattle.column_price.proofs.Served.{known-group}
 use Rattle.column_price.proofs.two_colours.tables_of.Goals as goal

@@ -1,4 +1,4 @@
-use Rattle.std.proofs.Common.{◌<◌, ◌∷◌, [], ◌≡◌, ◌∙◌, true, get_or, length, set, refl, ◌+◌, sym, ap}
+use Rattle.std.proofs.Common.{◌<◌, ◌∷◌, [], ◌≡◌, ◌∙◌, true, get_or, length, set, ◌+◌, sym, ap}
 use Rattle.std.proofs.Common.{subst, arith, SFits}
 use Rattle.std.proofs.Common.{w64, to_z-of_z, rules}
 use Rattle.list_laws.specs.Sets.{holds}

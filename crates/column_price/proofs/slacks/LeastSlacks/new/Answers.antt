@@ -1,4 +1,4 @@
-use Rattle.std.proofs.Common.{List, ℤ, subst, rules}
+use Rattle.std.proofs.Common.{List, ℤ, subst}
 use Rattle.column_price.specs.Served.{Serves}
 use Rattle.column_price.proofs.slacks.LeastSlacks.new.Goals as goal
 

@@ -1,4 +1,5 @@
-use Rattle.std.proofs.Common.{◌∙◌, ◌<◌, ◌≡◌, true, ℕ, ℤ, List, sym, ap, subst, SFits, w64, to_z-of_z}
+-- Whichever tables serve the node, what they say of a group holds of the node's.
+use Rattle.std.proofs.Common.{◌∙◌, ◌<◌, ℕ, ℤ, List, sym, ap, subst, SFits, w64, to_z-of_z}
 use Rattle.std.proofs.Common.{rules}
 use Rattle.colour_tables.specs.Grouped.{GroupedOrders}
 use Rattle.mill_model.specs.Prices.{least_slack}
@@ -9,7 +10,6 @@ use Rattle.split_tree.specs.Node.{Node, group_of}
 use Rattle.split_tree.proofs.Losses.{group-at}
 use Rattle.column_price.specs.Nodes.{Pricing}
 use Rattle.column_price.specs.Served.{Serves}
-use Rattle.column_price.specs.declared.slacks.Tables.{Tables}
 use Rattle.column_price.proofs.AtNode.{its-mill}
 use Rattle.column_price.proofs.Served.{known-group, by-colours, by-layers}
 use Rattle.column_price.proofs.slacks.LeastSlacks.on_group.Goals as goal

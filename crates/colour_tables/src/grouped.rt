@@ -95,7 +95,7 @@ impl<'a> ColourTables<'a> {
     /// largest size of the mill is `largest`.
     pub fn new(
         alloc: Global,
-        orders: &'a [Order],
+        orders: &[Order],
         prices: &[i64],
         groups: &'a [OpenSlab],
         charges: &'a Charges,
@@ -183,8 +183,9 @@ impl<'a> ColourTables<'a> {
             .least_on_with(&mut self.work, self.slabs[g], &self.turn)
     }
 
-    /// The least slack of a group over the sets that don't hold the order at `i`, where that order
-    /// can join the group; else None.
+    /// The least slack of a group over the sets that don't hold the order at `i`. None only where
+    /// that order can't join the group: then no set holds it, and the group's least slack says the
+    /// same.
     pub fn least_on_without(&mut self, g: usize, i: usize) -> Option<i64>
         requires here { g < length self.old.groups }
         requires order { i < length self.old.orders }

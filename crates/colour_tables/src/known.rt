@@ -103,8 +103,7 @@ impl<'a> OrderTables<'a> {
             (charge_of self.now.charges) group self.now.rest
             (set self.now.prices turn.now.place price) turn.now.place ≡ None }
     {
-        let rest = self.rest;
-        let weight = rest[turn.place].weight as usize;
+        let weight = self.order(turn.place).weight as usize;
         may_join(self.largest - slab.load, weight, slab.own, turn.colour)
     }
 
@@ -116,8 +115,7 @@ impl<'a> OrderTables<'a> {
         ensures turn { IsTurnOf self.now turn.new }
         ensures place { turn.new.place ≡ place }
     {
-        let rest = self.rest;
-        match find_colour(&self.colours, rest[place].colour) {
+        match find_colour(&self.colours, self.order(place).colour) {
             Some(colour) => {
                 turn.place = place;
                 turn.colour = colour;

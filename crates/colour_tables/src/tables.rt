@@ -31,7 +31,7 @@ use std::marker::Model;
 /// two.
 #[derive(Drop)]
 pub(crate) struct OrderTables<'a> {
-    pub(crate) rest: &'a [Order],
+    pub(crate) rest: Vec<Order>,
     pub(crate) charges: &'a Charges,
     pub(crate) largest: usize,
     pub(crate) prices: Vec<i64>,
@@ -47,7 +47,7 @@ impl<'a> Model for OrderTables<'a> {
     ghost Value = { PricedOrders };
 
     ghost view = { λ t. record {
-      rest = t.rest.now;
+      rest = t.rest.items;
       prices = t.prices.items;
       colours = t.colours.items;
       largest = t.largest;
@@ -55,7 +55,7 @@ impl<'a> Model for OrderTables<'a> {
     } };
 
     ghost invariant = { λ t. AreTables (record {
-      rest = t.rest.now;
+      rest = t.rest.items;
       prices = t.prices.items;
       colours = t.colours.items;
       largest = t.largest;
@@ -80,6 +80,14 @@ impl<'a> OrderTables<'a> {
         slabs::least_on(&self.rows, &self.runs, &mut work[..room], charges, slab.own)
     }
 
+    /// The order at a place.
+    pub(crate) fn order(&self, place: usize) -> Order
+        requires { place < length self.now.rest }
+        ensures { result ≡ slice_index_or self.now.rest place nobody }
+    {
+        self.rest[place]
+    }
+
     // The least slack of a new slab over all sets that hold the order in its turn, which fits one.
     fn least_fitting(&self, turn: &Turn) -> i64
         requires turn { IsTurnOf self.now turn.now }
@@ -90,8 +98,7 @@ impl<'a> OrderTables<'a> {
             turn.now.place ≡ Some (result -ℤ price) }
         ensures small { IsSmall slack_limit result }
     {
-        let rest = self.rest;
-        let weight = rest[turn.place].weight as usize;
+        let weight = self.order(turn.place).weight as usize;
         slabs::least_new_with(
             &self.paid[weight..],
             &turn.beside,
@@ -108,8 +115,7 @@ impl<'a> OrderTables<'a> {
             turn.now.place ≡ with_price (neg_ℤ price) result }
         ensures small { IfSome result (IsSmall slack_limit) }
     {
-        let rest = self.rest;
-        if rest[turn.place].weight as usize <= self.largest {
+        if self.order(turn.place).weight as usize <= self.largest {
             Some(self.least_fitting(turn))
         } else {
             None
@@ -128,8 +134,7 @@ impl<'a> OrderTables<'a> {
             ≡ Some (result -ℤ price) }
         ensures small { IsSmall slack_limit result }
     {
-        let rest = self.rest;
-        let load = slab.load + rest[turn.place].weight as usize;
+        let load = slab.load + self.order(turn.place).weight as usize;
         let room = self.largest - load + 1;
         slabs::least_with(
             &self.rows,
@@ -228,8 +233,7 @@ impl<'a> OrderTables<'a> {
         ensures alone { length turn.new.alone.items ≡ length turn.old.alone.items }
         ensures beside { length turn.new.beside.items ≡ length turn.old.beside.items }
     {
-        let rest = self.rest;
-        let weight = rest[turn.place].weight as usize;
+        let weight = self.order(turn.place).weight as usize;
         let at = self.runs.position(turn.colour, turn.place);
         self.prices[turn.place] = price;
         self.runs.set_price(at, price);

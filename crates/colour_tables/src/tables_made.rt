@@ -71,7 +71,7 @@ impl<'a> OrderTables<'a> {
     /// whose loads are charged as `charges` says.
     pub(crate) fn new(
         alloc: Global,
-        rest: &'a [Order],
+        rest: &[Order],
         prices: &[i64],
         charges: &'a Charges,
         largest: u32,
@@ -88,6 +88,7 @@ impl<'a> OrderTables<'a> {
         ensures charges { IfOk result (λ tables. tables.charges ≡ charges.now) }
         ensures few { IfOk result (λ tables. length tables.colours ≤ MAX_ORDERS) }
     {
+        let kept_orders = rest.to_vec(alloc)?;
         let kept_prices = prices.to_vec(alloc)?;
         let paid = paid_charges(alloc, charges, largest)?;
         let sorted = sort_by_colour(alloc, rest)?;
@@ -98,7 +99,7 @@ impl<'a> OrderTables<'a> {
         let mut rows = empty_rows(alloc, runs.ends.len(), largest as usize + 1)?;
         rows.fill(&runs);
         Ok(OrderTables {
-            rest,
+            rest: kept_orders,
             charges,
             largest: largest as usize,
             prices: kept_prices,

@@ -5,3 +5,5 @@ pub mod AtNode
 pub mod ValidSlacks
 pub mod SlacksKept
 pub mod WorthSums
+pub mod WithoutAny
+pub mod Served

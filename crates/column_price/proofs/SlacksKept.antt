@@ -16,11 +16,11 @@ use Rattle.mill_model.specs.declared.order.Order.{Order}
 use Rattle.mill_laws.proofs.Slacks.{among-slacks}
 use Rattle.mill_laws.proofs.Sweep.{new-second, z-least, z-without}
 
-some-least : (x : ℤ) (xs : List ℤ) → Among x xs → least_of xs ≡ Some (or_zero (least_of xs))
+pub some-least : (x : ℤ) (xs : List ℤ) → Among x xs → least_of xs ≡ Some (or_zero (least_of xs))
 some-least x [] a = absurd a
 some-least x (y ∷ xs) a = refl
 
-same : (x y : ℤ) → x ≤ℤ y → y ≤ℤ x → x ≡ y
+pub same : (x y : ℤ) → x ≤ℤ y → y ≤ℤ x → x ≡ y
 same x y h k = omega (arith, ints)
 
 module _ (mill : Mill) (charge : ℕ → ℕ) (ranked : List Order) (path : List ℕ)

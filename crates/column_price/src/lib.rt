@@ -7,6 +7,7 @@ mod node_prices;
 mod numbers;
 mod slacks;
 mod sweep;
+mod two_colours;
 
 pub use calls::{ascend, improve, worth};
 pub use node_prices::NodePrices;

@@ -9,39 +9,80 @@ ghost use Rattle.mill_model.specs.Limits.{IsPrice};
 ghost use Rattle.mill_model.specs.Prices.{least_slack};
 ghost use Rattle.mill_model.specs.Tree.{next_new};
 ghost use Rattle.set_minima.specs.Cells.{IsSmall, slack_limit};
-ghost use Rattle.split_tree.specs.Node.{group_of};
+ghost use Rattle.split_tree.specs.Node.{IsNode, group_of};
 ghost use Rattle.column_price.specs.Nodes.{IsPricing, AreFor, AreSlacks, rest_of, with_prices};
+ghost use Rattle.column_price.specs.Served.{Serves};
 
+use crate::two_colours::{least_new_at, least_on_with_at, least_on_without_at, tables_of};
+use colour_tables::ColourTables;
 use knap_bound::Knapsack;
 use mill_model::{Charges, OutOfMemory, Prices};
 use split_tree::NodeState;
 use std::alloc::Global;
 use std::marker::Model;
 
+/// What least slacks are found in: where a slab carries at most two colours, tables that are mended
+/// price by price; else a knapsack for each slack.
+#[derive(Drop)]
+pub(crate) enum Tables<'a> {
+    Colours(ColourTables<'a>),
+    Layers(Knapsack<'a>),
+}
+
+/// The tables for a node with these prices.
+fn tables_for<'a>(
+    alloc: Global,
+    node: &'a NodeState,
+    charges: &'a Charges,
+    prices: &[i64],
+) -> Result<Tables<'a>, OutOfMemory>
+    requires reach { Reaches charges.now node.now.ranked.mill }
+    requires prices { AreFor node.now prices.now }
+    ensures serves { IfOk result (Serves (record {
+      node = node.now;
+      charges = charges.now;
+      prices = prices.now;
+    })) }
+    ensures kept { IsNode node.now }
+{
+    if node.ranked().p() == 2 {
+        Ok(Tables::Colours(tables_of(alloc, node, charges, prices)?))
+    } else {
+        let knapsack = Knapsack::new(alloc, node.ranked(), charges, node.depth())?;
+        Ok(Tables::Layers(knapsack))
+    }
+}
+
 /// A node with a price for each order that it hasn't placed, and the tables in which least slacks
 /// are found. Once it is made, only `on_groups` takes memory.
 #[derive(Drop)]
 pub(crate) struct LeastSlacks<'a, 'b> {
     node: &'a NodeState<'b>,
-    knapsack: Knapsack<'a>,
+    charges: &'a Charges,
+    tables: Tables<'a>,
     prices: Vec<i64>,
 }
 
 impl<'a, 'b> Model for LeastSlacks<'a, 'b> {
     ghost use Rattle.std.specs.Prelude.{◌≤◌};
     ghost use Rattle.split_tree.specs.Node.{IsNode};
-    ghost use Rattle.column_price.specs.Nodes.{Pricing, IsAt, AreFor};
+    ghost use Rattle.column_price.specs.Nodes.{Pricing, AreFor};
+    ghost use Rattle.column_price.specs.Served.{Serves};
 
     ghost Value = { Pricing };
 
     ghost view = { λ s. record {
       node = s.node.now;
-      charges = s.knapsack.charges;
+      charges = s.charges.now;
       prices = s.prices.items;
     } };
 
-    ghost invariant = { λ s. IsNode s.node.now × IsAt s.node.now s.knapsack
-        × AreFor s.node.now s.prices.items };
+    ghost invariant = { λ s. IsNode s.node.now × AreFor s.node.now s.prices.items
+        × Serves (record {
+          node = s.node.now;
+          charges = s.charges.now;
+          prices = s.prices.items;
+        }) s.tables };
 }
 
 impl<'a, 'b> LeastSlacks<'a, 'b> {
@@ -57,10 +98,11 @@ impl<'a, 'b> LeastSlacks<'a, 'b> {
         ensures { IfOk result (λ slacks. slacks
             ≡ record { node = node.now; charges = charges.now; prices = prices.items }) }
     {
-        let knapsack = Knapsack::new(alloc, node.ranked(), charges, node.depth())?;
+        let tables = tables_for(alloc, node, charges, &prices)?;
         Ok(LeastSlacks {
             node,
-            knapsack,
+            charges,
+            tables,
             prices,
         })
     }
@@ -121,6 +163,10 @@ impl<'a, 'b> LeastSlacks<'a, 'b> {
         ensures { self.new ≡ with_prices self.old (set self.old.prices i price) }
     {
         self.prices[i] = price;
+        match &mut self.tables {
+            Tables::Colours(tables) => tables.set_price(i, price),
+            Tables::Layers(_) => {}
+        }
     }
 
     /// The least slack of a new slab with something in it. None where no order fits a slab.
@@ -129,7 +175,10 @@ impl<'a, 'b> LeastSlacks<'a, 'b> {
             (rest_of self.old.node) self.old.prices }
         ensures kept { self.new ≡ self.old }
     {
-        self.knapsack.least_new(&self.prices)
+        match &mut self.tables {
+            Tables::Colours(tables) => tables.least_new(),
+            Tables::Layers(knapsack) => knapsack.least_new(&self.prices),
+        }
     }
 
     /// The least slack of a new slab with the order at `i`. None where that order fits no slab.
@@ -141,7 +190,10 @@ impl<'a, 'b> LeastSlacks<'a, 'b> {
         ensures pricing { IsPricing self.old }
         ensures kept { self.new ≡ self.old }
     {
-        self.knapsack.least_new_with(&self.prices, i)
+        match &mut self.tables {
+            Tables::Colours(tables) => least_new_at(tables, &self.prices, i),
+            Tables::Layers(knapsack) => knapsack.least_new_with(&self.prices, i),
+        }
     }
 
     /// The least slack of a group over the sets that hold the order at `i`. None where that order
@@ -156,7 +208,10 @@ impl<'a, 'b> LeastSlacks<'a, 'b> {
         ensures kept { self.new ≡ self.old }
     {
         let groups = self.node.groups();
-        self.knapsack.least_on_with(&groups[g], &self.prices, i)
+        match &mut self.tables {
+            Tables::Colours(tables) => least_on_with_at(tables, &self.prices, g, i),
+            Tables::Layers(knapsack) => knapsack.least_on_with(&groups[g], &self.prices, i),
+        }
     }
 
     /// The least slack of a group over the sets that don't hold the order at `i`.
@@ -169,7 +224,10 @@ impl<'a, 'b> LeastSlacks<'a, 'b> {
         ensures kept { self.new ≡ self.old }
     {
         let groups = self.node.groups();
-        self.knapsack.least_on_without(&groups[g], &self.prices, i)
+        match &mut self.tables {
+            Tables::Colours(tables) => least_on_without_at(tables, &self.prices, g, i),
+            Tables::Layers(knapsack) => knapsack.least_on_without(&groups[g], &self.prices, i),
+        }
     }
 
     /// The least slack of a group.
@@ -181,7 +239,10 @@ impl<'a, 'b> LeastSlacks<'a, 'b> {
         ensures kept { self.new ≡ self.old }
     {
         let groups = self.node.groups();
-        self.knapsack.least_on(&groups[g], &self.prices)
+        match &mut self.tables {
+            Tables::Colours(tables) => tables.least_on(g),
+            Tables::Layers(knapsack) => knapsack.least_on(&groups[g], &self.prices),
+        }
     }
 
     /// How many groups the node has.

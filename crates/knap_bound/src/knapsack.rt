@@ -63,7 +63,7 @@ impl<'a> Model for Knapsack<'a> {
 }
 
 /// The orders from a rank on.
-fn orders_from(alloc: Global, ranked: &Ranked, from: u16) -> Result<Vec<Order>, OutOfMemory>
+pub fn orders_from(alloc: Global, ranked: &Ranked, from: u16) -> Result<Vec<Order>, OutOfMemory>
     requires { from ≤ length ranked.now.placed }
     ensures { IfOk result (λ orders. orders.items ≡ drop from (orders_of ranked.now)) }
 {

@@ -9,5 +9,5 @@ mod knapsack;
 mod minima;
 mod orders_by_colour;
 
-pub use knapsack::Knapsack;
+pub use knapsack::{Knapsack, orders_from};
 pub use minima::{least_new, least_on};

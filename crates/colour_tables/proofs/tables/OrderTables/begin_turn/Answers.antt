@@ -7,7 +7,9 @@ use Rattle.list_laws.proofs.Tests.{clash}
 use Rattle.list_laws.proofs.Different.{below-holds}
 use Rattle.set_minima.specs.Packs.{colour_at}
 use Rattle.set_minima.specs.Cells.{AreNear}
+use Rattle.set_minima.specs.Packs.{nobody}
 use Rattle.colour_tables.specs.PricedOrders.{PricedOrders}
+use Rattle.mill_model.specs.declared.order.Order.{Order}
 use Rattle.colour_tables.proofs.KnownColours.{absent}
 use Rattle.colour_tables.proofs.TurnTables.{turn-from}
 use Rattle.colour_tables.proofs.tables.OrderTables.begin_turn.Goals as goal
@@ -28,12 +30,15 @@ returns-in-Some-clause-turn c =
     let i = c.self.invariant in
     let d = c.in-Some.colour in
     let name : ℕ → ℕ = λ c. get_or t.colours.items c 0 in
-    let here : c.args.place < length t.rest.now =
+    let here : c.args.place < length t.rest.items =
     subst (λ (o : PricedOrders). c.args.place < length o.rest) (sym c.self.view_is)
     c.requires.here in
-    let at : colour_at t.rest.now c.args.place ≡ get_or t.colours.items c.in-Some.colour 0 =
-    sym (subst (λ xs. get_or xs c.in-Some.colour 0 ≡ colour_at t.rest.now c.args.place)
-    c.deref.ensures.value (c.in-Some.ensures.is c.in-Some.colour refl)) in
+    let same : c.order.result ≡ get_or t.rest.items c.args.place nobody =
+    subst (λ (o : PricedOrders). c.order.result ≡ get_or o.rest c.args.place nobody)
+    (sym c.self.view_is) c.order.ensures in
+    let at : colour_at t.rest.items c.args.place ≡ get_or t.colours.items c.in-Some.colour 0 =
+    sym (subst (λ xs. get_or xs c.in-Some.colour 0 ≡ c.order.result.colour) c.deref.ensures.value
+    (c.in-Some.ensures.is c.in-Some.colour refl) ∙ ap (λ (o : Order). o.colour) same) in
     let long : length c.args.turn.now.alone.items ≡ t.largest + 1 =
     subst (λ (o : PricedOrders). length c.args.turn.now.alone.items ≡ o.largest + 1)
     (sym c.self.view_is) c.requires.alone in
@@ -48,9 +53,9 @@ returns-in-Some-clause-turn c =
     let f = with_items_is c.args.turn.now.beside c.begin_turn.new.beside l in
     rw (← c.self.view_is) (record {
       tables =
-          turn-from t.rest.now t.prices.items name t.rows.width (t.largest + 1) d c.args.place
+          turn-from t.rest.items t.prices.items name t.rows.width (t.largest + 1) d c.args.place
           c.begin_turn.new.alone c.begin_turn.new.beside _ _ (sym i.width) e f
-          (c.begin_turn.ensures.is t.rest.now t.prices.items name i.row_tables i.run_orders here
+          (c.begin_turn.ensures.is t.rest.items t.prices.items name i.row_tables i.run_orders here
           at);
       known = (below-holds c.in-Some.colour (length t.colours.items)
           (subst (λ xs. c.in-Some.colour < length xs) c.deref.ensures.value
@@ -64,27 +69,37 @@ returns-in-Some-clause-turn c =
 pub returns-in-None-clause-turn : goal.returns-in-None-clause-turn
 returns-in-None-clause-turn c =
     let t = c.self.inside in
-    let all = subst (λ xs. (i : ℕ) → i < length t.rest.now →
-    holds (colour_at t.rest.now i) (map (λ c. get_or t.colours.items c 0) xs) ≡ true)
+    let all = subst (λ xs. (i : ℕ) → i < length t.rest.items →
+    holds (colour_at t.rest.items i) (map (λ c. get_or t.colours.items c 0) xs) ≡ true)
     c.self.invariant.present c.self.invariant.row_tables.all in
-    let here : c.args.place < length t.rest.now =
+    let here : c.args.place < length t.rest.items =
     subst (λ (o : PricedOrders). c.args.place < length o.rest) (sym c.self.view_is)
     c.requires.here in
-    let x = colour_at t.rest.now c.args.place in
-    absurd (clash (eqb x x) (eq-eqb x x refl) (absent t.rest.now t.colours.items all x
-    (subst (λ xs. holds x xs ≡ false) c.deref.ensures.value (c.in-None.ensures.none refl))
+    let same : c.order.result ≡ get_or t.rest.items c.args.place nobody =
+    subst (λ (o : PricedOrders). c.order.result ≡ get_or o.rest c.args.place nobody)
+    (sym c.self.view_is) c.order.ensures in
+    let x = colour_at t.rest.items c.args.place in
+    absurd (clash (eqb x x) (eq-eqb x x refl) (absent t.rest.items t.colours.items all x
+    (subst (λ (o : Order). holds o.colour t.colours.items ≡ false) same
+    (subst (λ xs. holds c.order.result.colour xs ≡ false) c.deref.ensures.value
+    (c.in-None.ensures.none refl)))
     c.args.place here))
 
 pub returns-in-None-clause-place : goal.returns-in-None-clause-place
 returns-in-None-clause-place c =
     let t = c.self.inside in
-    let all = subst (λ xs. (i : ℕ) → i < length t.rest.now →
-    holds (colour_at t.rest.now i) (map (λ c. get_or t.colours.items c 0) xs) ≡ true)
+    let all = subst (λ xs. (i : ℕ) → i < length t.rest.items →
+    holds (colour_at t.rest.items i) (map (λ c. get_or t.colours.items c 0) xs) ≡ true)
     c.self.invariant.present c.self.invariant.row_tables.all in
-    let here : c.args.place < length t.rest.now =
+    let here : c.args.place < length t.rest.items =
     subst (λ (o : PricedOrders). c.args.place < length o.rest) (sym c.self.view_is)
     c.requires.here in
-    let x = colour_at t.rest.now c.args.place in
-    absurd (clash (eqb x x) (eq-eqb x x refl) (absent t.rest.now t.colours.items all x
-    (subst (λ xs. holds x xs ≡ false) c.deref.ensures.value (c.in-None.ensures.none refl))
+    let same : c.order.result ≡ get_or t.rest.items c.args.place nobody =
+    subst (λ (o : PricedOrders). c.order.result ≡ get_or o.rest c.args.place nobody)
+    (sym c.self.view_is) c.order.ensures in
+    let x = colour_at t.rest.items c.args.place in
+    absurd (clash (eqb x x) (eq-eqb x x refl) (absent t.rest.items t.colours.items all x
+    (subst (λ (o : Order). holds o.colour t.colours.items ≡ false) same
+    (subst (λ xs. holds c.order.result.colour xs ≡ false) c.deref.ensures.value
+    (c.in-None.ensures.none refl)))
     c.args.place here))

@@ -1,5 +1,5 @@
 use Rattle.std.proofs.Common.{◌≤◌, pos, ◌≡◌, ◌+◌, ◌-◌, ℕ, get_or, length, sym, subst, arith}
-use Rattle.std.proofs.Common.{SFits, w64, to_z-of_z, rules, take}
+use Rattle.std.proofs.Common.{SFits, w64, to_z-of_z, rules, take, drop, ap}
 use Rattle.mill_model.specs.Charges.{charge_of}
 use Rattle.set_minima.specs.Packs.{nobody}
 use Rattle.colour_tables.specs.PricedOrders.{PricedOrders, IsTurnOf, MayJoin}
@@ -7,7 +7,8 @@ use Rattle.colour_tables.proofs.PaidCharges.{charged-from, room-of}
 use Rattle.colour_tables.proofs.TurnTables.{turn-wide}
 use Rattle.mill_model.specs.declared.order.TheConstants.{MAX_ORDERS}
 use Rattle.colour_tables.specs.Entries.{AreSmallAll}
-use Rattle.colour_tables.specs.Leasts.{two_colours}
+use Rattle.colour_tables.specs.Leasts.{two_colours, IsRoom, AreCharged}
+use Rattle.mill_model.specs.declared.order.Order.{Order}
 use Rattle.mill_model.specs.Bounds.{in_set}
 use Rattle.colour_tables.proofs.SlacksWithin.{known-stands, small-from, stand-in}
 use Rattle.colour_tables.proofs.tables.OrderTables.least_joined.Goals as goal
@@ -25,19 +26,29 @@ returns-clause-is c =
     c.requires.turn in
     let joins = subst (λ (o : PricedOrders). MayJoin o c.args.turn.now c.args.slab)
     (sym c.self.view_is) c.requires.joins in
-    let base : ℕ = c.args.slab.load + (get_or t.rest.now c.args.turn.now.place nobody).weight in
-    let room = room-of t.largest base c.args.work.now joins.fits work in
+    let same : c.order.result ≡ get_or t.rest.items c.args.turn.now.place nobody =
+    subst (λ (o : PricedOrders). c.order.result ≡ get_or o.rest c.args.turn.now.place nobody)
+    (sym c.self.view_is) c.order.ensures in
+    let base : ℕ = c.args.slab.load + c.order.result.weight in
+    let load : ℕ = c.args.slab.load + (get_or t.rest.items c.args.turn.now.place nobody).weight in
+    let loads : base ≡ load = ap (λ (o : Order). c.args.slab.load + o.weight) same in
+    let long : ℕ = length (take (t.largest - base + 1) c.args.work.now) in
+    let room =
+    room-of t.largest base c.args.work.now (omega (arith, loads, joins.fits)) work in
     let f : SFits w64 c.least_with.result = search rules in
     let m = c.tables.ensures in
     let is = rw (m.place, m.colour, m.alone, m.beside) at c.least_with.ensures.is in
     rw (← c.self.view_is) (λ price group st.
-    simp to_z-of_z (is t.rest.now t.prices.items name charge t.largest
+    simp to_z-of_z (is t.rest.items t.prices.items name charge t.largest
     c.args.slab.load st.own i.row_tables i.run_orders
-    (turn-wide t.rest.now t.prices.items name (t.largest + 1) t.rows.width
+    (turn-wide t.rest.items t.prices.items name (t.largest + 1) t.rows.width
     c.args.turn.now.colour c.args.turn.now.place c.args.turn.now.alone.items
-    c.args.turn.now.beside.items i.width q.tables) st.is room
-    (charged-from charge t.largest base (length (take (t.largest - base + 1) c.args.work.now))
-    t.paid.items c.deref.result.now c.deref.ensures.value i.reach i.charged room) price group
+    c.args.turn.now.beside.items i.width q.tables) st.is
+    (subst (λ l. IsRoom t.largest l long) loads room)
+    (subst (λ l. AreCharged charge l long (take (length c.deref.result.now - base)
+    (drop base c.deref.result.now))) loads
+    (charged-from charge t.largest base long
+    t.paid.items c.deref.result.now c.deref.ensures.value i.reach i.charged room)) price group
     st.of))
 
 pub returns-clause-small : goal.returns-clause-small

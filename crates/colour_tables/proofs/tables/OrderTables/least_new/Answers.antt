@@ -21,7 +21,7 @@ returns-clause-is c =
     let work : length c.args.work.now ≡ t.largest + 1 =
     subst (λ (o : PricedOrders). length c.args.work.now ≡ o.largest + 1) (sym c.self.view_is)
     c.requires.work in
-    rw (← c.self.view_is) (c.least_new.ensures.is t.rest.now t.prices.items name charge t.largest
+    rw (← c.self.view_is) (c.least_new.ensures.is t.rest.items t.prices.items name charge t.largest
     i.row_tables i.run_orders (record { fits = omega arith; wide = omega (arith, work) })
     (λ l b. subst (λ (xs : List ℤ). entry xs l ≡ pos (60 * charge (0 + l)))
     (sym c.deref.ensures.value) (i.charged l (omega (arith, b, work)))))

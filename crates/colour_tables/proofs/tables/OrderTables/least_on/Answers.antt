@@ -25,7 +25,7 @@ returns-clause-is c =
     let room = room-of t.largest c.args.slab.load c.args.work.now known.fits work in
     let f : SFits w64 c.least_on.result = search rules in
     rw (← c.self.view_is) (λ group st.
-    simp to_z-of_z (c.least_on.ensures.is t.rest.now t.prices.items name charge t.largest
+    simp to_z-of_z (c.least_on.ensures.is t.rest.items t.prices.items name charge t.largest
     c.args.slab.load st.own i.row_tables i.run_orders st.is room
     (charged-from charge t.largest c.args.slab.load
     (length (take (t.largest - c.args.slab.load + 1) c.args.work.now)) t.paid.items

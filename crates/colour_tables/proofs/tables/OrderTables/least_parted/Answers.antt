@@ -29,9 +29,9 @@ returns-clause-is c =
     let m = c.tables.ensures in
     let is = rw (m.place, m.colour, m.alone, m.beside) at c.least_without.ensures.is in
     rw (← c.self.view_is) (λ price group st.
-    simp to_z-of_z (is t.rest.now t.prices.items name charge
+    simp to_z-of_z (is t.rest.items t.prices.items name charge
     t.largest c.args.slab.load st.own i.row_tables i.run_orders
-    (turn-wide t.rest.now t.prices.items name (t.largest + 1) t.rows.width
+    (turn-wide t.rest.items t.prices.items name (t.largest + 1) t.rows.width
     c.args.turn.now.colour c.args.turn.now.place c.args.turn.now.alone.items
     c.args.turn.now.beside.items i.width q.tables) st.is room
     (charged-from charge t.largest c.args.slab.load

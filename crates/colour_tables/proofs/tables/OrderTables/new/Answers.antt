@@ -1,10 +1,12 @@
 use Rattle.std.proofs.Common.{ℕ, ◌≡◌, ◌∙◌, ◌≤◌, ◌+◌, true, length, get_or, sym, subst, arith}
-use Rattle.std.proofs.Common.{rules}
+use Rattle.std.proofs.Common.{rules, List}
 use Rattle.list_laws.specs.Sets.{below}
 use Rattle.colour_tables.specs.Stretches.{IsByColour, AreStretches, AreColours, AreItems}
 use Rattle.colour_tables.specs.Entries.{AreSmallAll}
 use Rattle.colour_tables.specs.Threes.{once}
 use Rattle.colour_tables.specs.Rowed.{AreRows}
+use Rattle.colour_tables.specs.PricedOrders.{AreTables}
+use Rattle.mill_model.specs.declared.order.Order.{Order}
 use Rattle.colour_tables.specs.Owned.{AreRuns, AreRunsSafe}
 use Rattle.colour_tables.specs.declared.slabs.Runs.{Runs}
 use Rattle.colour_tables.proofs.TablesMade.{prices-small, made-safe, made-runs, made-names}
@@ -83,12 +85,19 @@ invariant_of-result c =
     let colours = c.in_ok-colours.colours.items in
     let name : ℕ → ℕ = λ x. get_or c.in_ok-colours.colours.items x 0 in
     let small = prices-small c.args.prices.now c.requires.prices in
+    let o : c.in_ok-kept_orders.kept_orders.items ≡ c.args.rest.now = search rules in
     let e : c.in_ok-kept_prices.kept_prices.items ≡ c.args.prices.now = search rules in
     let kept = c.fill.ensures.present in
     let made = made-runs rest prices c.requires.few c.requires.orders c.requires.same small
     c.in_ok-sorted.sorted.items by runs st colours co it present is in
     let w : c.in_ok-rows.rows.width ≡ c.args.largest + 1 = search rules in
-    record {
+    subst (λ (orders : List Order). AreTables (record {
+      rest = orders;
+      prices = c.in_ok-kept_prices.kept_prices.items;
+      colours = colours;
+      largest = c.args.largest;
+      charges = c.args.charges.now;
+    }) runs c.fill.new.self c.in_ok-paid.paid.items) (sym o) (record {
       few = c.requires.few;
       priced = subst AreSmallAll (sym e) small;
       shaped = c.fill.ensures.shaped;
@@ -117,4 +126,4 @@ invariant_of-result c =
       reach = c.in_ok-paid.ensures.long;
       charged = c.in_ok-paid.ensures.is;
       small = c.in_ok-paid.ensures.small;
-    }
+    })

@@ -23,21 +23,21 @@ returns-in-Some-clause-held c =
 pub returns-in-None-clause-is : goal.returns-in-None-clause-is
 returns-in-None-clause-is c =
     let t = c.self.inside in
-    let all = subst (λ xs. (i : ℕ) → i < length t.rest.now →
-    holds (colour_at t.rest.now i) (map (λ c. get_or t.colours.items c 0) xs) ≡ true)
+    let all = subst (λ xs. (i : ℕ) → i < length t.rest.items →
+    holds (colour_at t.rest.items i) (map (λ c. get_or t.colours.items c 0) xs) ≡ true)
     c.self.invariant.present c.self.invariant.row_tables.all in
     let none : holds (get_or c.args.colours.now 0 0) t.colours.items ≡ false =
     subst (λ xs. holds (get_or c.args.colours.now 0 0) xs ≡ false) c.deref.ensures.value
     (c.in-None.ensures.none refl) in
     subst (λ (o : PricedOrders). IsOwn o.rest (colour_of o) c.args.colours.now Bare)
     c.self.view_is
-    (own-bare t.rest.now t.colours.items all c.args.colours.now c.if-colours-eq1.true none)
+    (own-bare t.rest.items t.colours.items all c.args.colours.now c.if-colours-eq1.true none)
 
 pub returns-in-Some-Some-clause-held : goal.returns-in-Some-Some-clause-held
 returns-in-Some-Some-clause-held c =
     let t = c.self.inside in
-    let all = subst (λ xs. (i : ℕ) → i < length t.rest.now →
-    holds (colour_at t.rest.now i) (map (λ c. get_or t.colours.items c 0) xs) ≡ true)
+    let all = subst (λ xs. (i : ℕ) → i < length t.rest.items →
+    holds (colour_at t.rest.items i) (map (λ c. get_or t.colours.items c 0) xs) ≡ true)
     c.self.invariant.present c.self.invariant.row_tables.all in
     let n = two-long (length c.args.colours.now) c.requires.some c.requires.few
     c.if-colours-eq1.false in
@@ -58,7 +58,7 @@ returns-in-Some-Some-clause-held c =
     c.in-Some-Some.e r) in
     subst (λ (o : PricedOrders). IsHeld (below (length o.colours))
     (Two c.in-Some-Some.d c.in-Some-Some.e)) c.self.view_is
-    (held-two t.rest.now t.colours.items all c.args.colours.now n c.requires.apart
+    (held-two t.rest.items t.colours.items all c.args.colours.now n c.requires.apart
     c.in-Some-Some.d c.in-Some-Some.e p s h k)
 
 pub returns-in-Some-None-clause-held : goal.returns-in-Some-None-clause-held
@@ -75,8 +75,8 @@ returns-in-Some-None-clause-held c =
 pub returns-in-Some-None-clause-is : goal.returns-in-Some-None-clause-is
 returns-in-Some-None-clause-is c =
     let t = c.self.inside in
-    let all = subst (λ xs. (i : ℕ) → i < length t.rest.now →
-    holds (colour_at t.rest.now i) (map (λ c. get_or t.colours.items c 0) xs) ≡ true)
+    let all = subst (λ xs. (i : ℕ) → i < length t.rest.items →
+    holds (colour_at t.rest.items i) (map (λ c. get_or t.colours.items c 0) xs) ≡ true)
     c.self.invariant.present c.self.invariant.row_tables.all in
     let n = two-long (length c.args.colours.now) c.requires.some c.requires.few
     c.if-colours-eq1.false in
@@ -90,7 +90,7 @@ returns-in-Some-None-clause-is c =
     (c.find_colour.ensures.none r) in
     subst (λ (o : PricedOrders). IsOwn o.rest (colour_of o) c.args.colours.now
     (One c.in-Some-None.d)) c.self.view_is
-    (own-first t.rest.now t.colours.items all c.args.colours.now n c.requires.apart
+    (own-first t.rest.items t.colours.items all c.args.colours.now n c.requires.apart
     c.in-Some-None.d p nor)
 
 pub returns-in-None-Some-clause-held : goal.returns-in-None-Some-clause-held
@@ -107,8 +107,8 @@ returns-in-None-Some-clause-held c =
 pub returns-in-None-Some-clause-is : goal.returns-in-None-Some-clause-is
 returns-in-None-Some-clause-is c =
     let t = c.self.inside in
-    let all = subst (λ xs. (i : ℕ) → i < length t.rest.now →
-    holds (colour_at t.rest.now i) (map (λ c. get_or t.colours.items c 0) xs) ≡ true)
+    let all = subst (λ xs. (i : ℕ) → i < length t.rest.items →
+    holds (colour_at t.rest.items i) (map (λ c. get_or t.colours.items c 0) xs) ≡ true)
     c.self.invariant.present c.self.invariant.row_tables.all in
     let n = two-long (length c.args.colours.now) c.requires.some c.requires.few
     c.if-colours-eq1.false in
@@ -123,14 +123,14 @@ returns-in-None-Some-clause-is c =
     (c.find_colour.ensures.is c.in-None-Some.e r) in
     subst (λ (o : PricedOrders). IsOwn o.rest (colour_of o) c.args.colours.now
     (One c.in-None-Some.e)) c.self.view_is
-    (own-second t.rest.now t.colours.items all c.args.colours.now n c.requires.apart
+    (own-second t.rest.items t.colours.items all c.args.colours.now n c.requires.apart
     c.in-None-Some.e s none)
 
 pub returns-in-None-None-clause-is : goal.returns-in-None-None-clause-is
 returns-in-None-None-clause-is c =
     let t = c.self.inside in
-    let all = subst (λ xs. (i : ℕ) → i < length t.rest.now →
-    holds (colour_at t.rest.now i) (map (λ c. get_or t.colours.items c 0) xs) ≡ true)
+    let all = subst (λ xs. (i : ℕ) → i < length t.rest.items →
+    holds (colour_at t.rest.items i) (map (λ c. get_or t.colours.items c 0) xs) ≡ true)
     c.self.invariant.present c.self.invariant.row_tables.all in
     let n = two-long (length c.args.colours.now) c.requires.some c.requires.few
     c.if-colours-eq1.false in
@@ -144,4 +144,4 @@ returns-in-None-None-clause-is c =
     (c.find_colour.ensures.none r) in
     subst (λ (o : PricedOrders). IsOwn o.rest (colour_of o) c.args.colours.now Full)
     c.self.view_is
-    (own-full t.rest.now t.colours.items all c.args.colours.now n c.requires.apart none nor)
+    (own-full t.rest.items t.colours.items all c.args.colours.now n c.requires.apart none nor)

@@ -3,8 +3,9 @@
 use Rattle.std.proofs.Common.{ℕ, zero, suc, ◌+◌, ◌<◌, ◌≤◌, ◌≡◌, ◌≢◌, Bool, true, false, cond}
 use Rattle.std.proofs.Common.{List, [], ◌∷◌, ◌++◌, length, get_or, eqb, Some, None, refl}
 use Rattle.std.proofs.Common.{sym, ap, ap₂, ◌∙◌, arith, subst, inl, inr, eqb-true, eq-eqb, ne_eqb}
-use Rattle.std.proofs.Common.{false-eqb, ◌-◌, take, set, append_assoc}
+use Rattle.std.proofs.Common.{Option, false-eqb, ◌-◌, take, set, append_assoc}
 use Rattle.std.specs.List.{slice_get}
+use Rattle.std.specs.Option.{is_some}
 use Rattle.std.proofs.lemmas.List.{get_or-map, length-map, take_more_set}
 use Rattle.std.proofs.Math.Seq.{take-suc}
 use Rattle.std.proofs.lemmas.Option.{slice_get-get_or, slice_get_within, get_or_from_slice_get}
@@ -92,7 +93,7 @@ holds-place s (x ∷ xs) h = elim (or-cases (eqb s x) (holds s xs) h) [
   | inr i ↦ (let r = holds-place s xs i in (suc r.0, omega (arith, r.1), r.2))
 ]
 
-module _ (lists : List (List ℕ)) (are : AreSlabLists lists) where
+module _ (lists : List (List ℕ)) where
   pub plan-count : length (plan_of lists) ≡ length lists
   plan-count = length-map (below (length lists)) (slab_in lists) ∙ length-below (length lists)
 
@@ -102,6 +103,7 @@ module _ (lists : List (List ℕ)) (are : AreSlabLists lists) where
       (omega (arith, l, length-below (length lists)))
       ∙ ap (slab_in lists) (get_or-below (length lists) o l)
 
+module _ (lists : List (List ℕ)) (are : AreSlabLists lists) where
   -- the order at a place of the list of a slab, and the one behind it
   pub at-place : (s k o : ℕ) → s < length lists → slice_get (list_at lists s) k ≡ Some o →
       (o < length lists)
@@ -152,24 +154,23 @@ module _ (lists : List (List ℕ)) (are : AreSlabLists lists) where
       (both-apart a b a_in b_in ne) in
       omega (arith, few, same)
 
-  -- a slab is used where its list has an order, and else is not
-  pub used-by-first : (s o : ℕ) → s < length lists → slice_get (list_at lists s) 0 ≡ Some o →
+  used-by-first : (s o : ℕ) → s < length lists → slice_get (list_at lists s) 0 ≡ Some o →
       holds s (plan_of lists) ≡ true
   used-by-first s o s_in e =
       let there = get-holds (list_at lists s) 0 o e in
       let o_in = are.orders s o s_in there in
       let here : s ≡ slab_in lists o =
       eqb-true s (slab_in lists o) (sym (are.one_list s o s_in o_in) ∙ there) in
-      subst (λ t. holds t (plan_of lists) ≡ true) (plan-at o o_in ∙ sym here)
+      subst (λ t. holds t (plan_of lists) ≡ true) (plan-at lists o o_in ∙ sym here)
       (get-holds (plan_of lists) o (get_or (plan_of lists) o 0)
-      (slice_get-get_or (plan_of lists) o 0 (omega (arith, o_in, plan-count))))
+      (slice_get-get_or (plan_of lists) o 0 (omega (arith, o_in, plan-count lists))))
 
-  pub unused-by-first : (s : ℕ) → s < length lists → slice_get (list_at lists s) 0 ≡ None →
+  unused-by-first : (s : ℕ) → s < length lists → slice_get (list_at lists s) 0 ≡ None →
       holds s (plan_of lists) ≡ false
   unused-by-first s s_in e = elim (either (holds s (plan_of lists))) [
     | inl h ↦ (let place = holds-place s (plan_of lists) h in
-        let o_in : place.0 < length lists = omega (arith, place.1, plan-count) in
-        let here : slab_in lists place.0 ≡ s = sym (plan-at place.0 o_in) ∙ place.2 in
+        let o_in : place.0 < length lists = omega (arith, place.1, plan-count lists) in
+        let here : slab_in lists place.0 ≡ s = sym (plan-at lists place.0 o_in) ∙ place.2 in
         let there : holds place.0 (list_at lists s) ≡ true =
         are.one_list s place.0 s_in o_in ∙ eq-eqb s (slab_in lists place.0) (sym here) in
         absurd (clash (holds place.0 (list_at lists s)) there
@@ -177,13 +178,23 @@ module _ (lists : List (List ℕ)) (are : AreSlabLists lists) where
     | inr f ↦ f
   ]
 
+  -- a slab is used exactly where its list has a first order
+  pub used-first : (s : ℕ) → s < length lists →
+      is_some (slice_get (list_at lists s) 0) ≡ holds s (plan_of lists)
+  used-first s s_in = go (slice_get (list_at lists s) 0) refl
+    where
+      go : (first : Option ℕ) → slice_get (list_at lists s) 0 ≡ first →
+          is_some first ≡ holds s (plan_of lists)
+      go None e = sym (unused-by-first s s_in e)
+      go (Some o) e = sym (used-by-first s o s_in e)
+
   place-times : (kind : ℕ → Bool) (z : ℕ) → z < length lists →
       times eqb z (places_where kind 0 (plan_of lists)) ≡ cond (kind (slab_in lists z)) 1 0
   place-times kind z z_in =
       apart-times (places_where kind 0 (plan_of lists)) (places-apart kind 0 (plan_of lists)) z
       ∙ ap (λ b. cond b 1 0) (places-at kind 0 (plan_of lists) z z
-      (omega (arith, z_in, plan-count)) (omega arith)
-      ∙ ap kind (plan-at z z_in))
+      (omega (arith, z_in, plan-count lists)) (omega arith)
+      ∙ ap kind (plan-at lists z z_in))
 
   no-place-times : (kind : ℕ → Bool) (z : ℕ) → length lists ≤ z →
       times eqb z (places_where kind 0 (plan_of lists)) ≡ 0
@@ -191,7 +202,7 @@ module _ (lists : List (List ℕ)) (are : AreSlabLists lists) where
       apart-times (places_where kind 0 (plan_of lists)) (places-apart kind 0 (plan_of lists)) z
       ∙ elim (either (holds z (places_where kind 0 (plan_of lists)))) [
         | inl h ↦ (let low = places-high kind 0 (plan_of lists) z h in
-            absurd (omega (arith, low, out, plan-count)))
+            absurd (omega (arith, low, out, plan-count lists)))
         | inr f ↦ rw f refl
       ]
 

@@ -51,6 +51,14 @@ impl SlabLinks {
         Ok(SlabLinks { chains, slabs })
     }
 
+    /// How many orders there are, which is also the number of slabs.
+    pub fn len(&self) -> u16
+        ensures is { result ≡ length self.now }
+        ensures kept { AreSlabLists self.now }
+    {
+        self.slabs.len() as u16
+    }
+
     /// The first order of a slab.
     pub fn first(&self, slab: u16) -> Option<u16>
         requires { slab < length self.now }

@@ -43,6 +43,7 @@ fn lists_are_written_one_behind_the_other(rt: HostRuntime) -> Result<(), Fail> {
     let plan = Plan::from_list(vec![in alloc; 1, 0, 1, 1]?);
     let links = SlabLinks::new(alloc, &plan)?;
     let mut places = [9; 8];
+    assert_eq!(rt; links.len(), 4);
     let end = links.write_list(1, &mut places, 1);
     assert_eq!(rt; links.write_list(0, &mut places, end), 5);
     assert_eq!(rt; places.as_slice(), [9, 0, 2, 3, 1, 9, 9, 9].as_slice());

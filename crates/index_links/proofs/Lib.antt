@@ -3,3 +3,4 @@ pub mod Relinked
 pub mod Moved
 pub mod Views
 pub mod Made
+pub mod Members

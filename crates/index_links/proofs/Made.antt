@@ -1,6 +1,6 @@
 -- The chains of a plan, made from its last order to its first.
-use Rattle.std.proofs.Common.{ℕ, zero, suc, ◌+◌, ◌-◌, ◌<◌, ◌≤◌, ◌≡◌, ◌⊎◌, true, false, cond, List}
-use Rattle.std.proofs.Common.{[], ◌∷◌, length, get_or, set, drop, eqb, replicate, Option, Some}
+use Rattle.std.proofs.Common.{ℕ, zero, suc, ◌+◌, ◌-◌, ◌<◌, ◌≤◌, ◌≡◌, ◌⊎◌, Bool, true, false, cond}
+use Rattle.std.proofs.Common.{List, [], ◌∷◌, length, get_or, set, drop, eqb, replicate, Option, Some}
 use Rattle.std.proofs.Common.{None, refl, sym, ap, ◌∙◌, arith, subst, inl, inr, eqb-true, ne_eqb}
 use Rattle.std.proofs.Common.{eq-eqb}
 use Rattle.std.proofs.Math.Seq.{drop-cons}
@@ -12,79 +12,79 @@ use Rattle.list_laws.specs.Sets.{holds, below}
 use Rattle.mill_model.specs.declared.order.TheConstants.{MAX_ORDERS}
 use Rattle.list_laws.proofs.Tests.{either, or-cases}
 use Rattle.list_laws.proofs.Lists.{length-below}
-use Rattle.index_links.specs.Lists.{Apart, list_at, lists_of_plan, places_from}
+use Rattle.index_links.specs.Lists.{Apart, list_at, lists_of_plan, places_where}
 use Rattle.index_links.specs.Links.{look, set_at, Chain, IsLinked}
 use Rattle.index_links.proofs.LinkedLists.{first-holds, chain-first}
 use Rattle.index_links.proofs.Moved.{look-set, look-set_at, length-set_at}
 use Rattle.index_links.proofs.Relinked.{chains-with}
 use Rattle.index_links.proofs.Views.{get_or-below}
 
--- The places of a number.
+-- The places of the numbers of a kind.
 
-pub places-low : (s k : ℕ) (plan : List ℕ) (z : ℕ) → holds z (places_from s k plan) ≡ true → k ≤ z
-places-low s k [] z h = absurd (cc)
-places-low s k (t ∷ plan) z h = elim (either (eqb s t)) [
-  | inl e ↦ elim (or-cases (eqb z k) (holds z (places_from s (suc k) plan)) (rw e at h)) [
+pub places-low : (kind : ℕ → Bool) (k : ℕ) (plan : List ℕ) (z : ℕ) → holds z (places_where kind k plan) ≡ true → k ≤ z
+places-low kind k [] z h = absurd (cc)
+places-low kind k (t ∷ plan) z h = elim (either (kind t)) [
+  | inl e ↦ elim (or-cases (eqb z k) (holds z (places_where kind (suc k) plan)) (rw e at h)) [
     | inl same ↦ omega (arith, eqb-true z k same)
-    | inr i ↦ omega (arith, places-low s (suc k) plan z i)
+    | inr i ↦ omega (arith, places-low kind (suc k) plan z i)
   ]
-  | inr f ↦ omega (arith, places-low s (suc k) plan z (rw f at h))
+  | inr f ↦ omega (arith, places-low kind (suc k) plan z (rw f at h))
 ]
 
-pub places-high : (s k : ℕ) (plan : List ℕ) (z : ℕ) → holds z (places_from s k plan) ≡ true →
+pub places-high : (kind : ℕ → Bool) (k : ℕ) (plan : List ℕ) (z : ℕ) → holds z (places_where kind k plan) ≡ true →
     z < k + length plan
-places-high s k [] z h = absurd (cc)
-places-high s k (t ∷ plan) z h = elim (either (eqb s t)) [
-  | inl e ↦ elim (or-cases (eqb z k) (holds z (places_from s (suc k) plan)) (rw e at h)) [
+places-high kind k [] z h = absurd (cc)
+places-high kind k (t ∷ plan) z h = elim (either (kind t)) [
+  | inl e ↦ elim (or-cases (eqb z k) (holds z (places_where kind (suc k) plan)) (rw e at h)) [
     | inl same ↦ omega (arith, eqb-true z k same)
-    | inr i ↦ omega (arith, places-high s (suc k) plan z i)
+    | inr i ↦ omega (arith, places-high kind (suc k) plan z i)
   ]
-  | inr f ↦ omega (arith, places-high s (suc k) plan z (rw f at h))
+  | inr f ↦ omega (arith, places-high kind (suc k) plan z (rw f at h))
 ]
 
-lacks : (s k : ℕ) (plan : List ℕ) (z : ℕ) → z < k → holds z (places_from s k plan) ≡ false
-lacks s k plan z l = elim (either (holds z (places_from s k plan))) [
-  | inl t ↦ absurd (omega (arith, places-low s k plan z t))
+lacks : (kind : ℕ → Bool) (k : ℕ) (plan : List ℕ) (z : ℕ) → z < k → holds z (places_where kind k plan) ≡ false
+lacks kind k plan z l = elim (either (holds z (places_where kind k plan))) [
+  | inl t ↦ absurd (omega (arith, places-low kind k plan z t))
   | inr f ↦ f
 ]
 
-pub places-apart : (s k : ℕ) (plan : List ℕ) → Apart (places_from s k plan)
-places-apart s k [] = tt
-places-apart s k (t ∷ plan) = elim (either (eqb s t)) [
-  | inl e ↦ rw e (lacks s (suc k) plan k (omega arith), places-apart s (suc k) plan)
-  | inr f ↦ rw f (places-apart s (suc k) plan)
+pub places-apart : (kind : ℕ → Bool) (k : ℕ) (plan : List ℕ) → Apart (places_where kind k plan)
+places-apart kind k [] = tt
+places-apart kind k (t ∷ plan) = elim (either (kind t)) [
+  | inl e ↦ rw e (lacks kind (suc k) plan k (omega arith), places-apart kind (suc k) plan)
+  | inr f ↦ rw f (places-apart kind (suc k) plan)
 ]
 
--- a place is one of the number that stands there
-pub places-at : (s k : ℕ) (plan : List ℕ) (j z : ℕ) → j < length plan → z ≡ k + j →
-    holds z (places_from s k plan) ≡ eqb s (get_or plan j 0)
-places-at s k [] j z l e = absurd (omega arith)
-places-at s k (t ∷ plan) zero z l e = elim (either (eqb s t)) [
+-- a place is one of the kind where the number that stands there is
+pub places-at : (kind : ℕ → Bool) (k : ℕ) (plan : List ℕ) (j z : ℕ) → j < length plan → z ≡ k + j →
+    holds z (places_where kind k plan) ≡ kind (get_or plan j 0)
+places-at kind k [] j z l e = absurd (omega arith)
+places-at kind k (t ∷ plan) zero z l e = elim (either (kind t)) [
   | inl h ↦ rw (h, eq-eqb z k (omega arith))
-  | inr f ↦ rw f (lacks s (suc k) plan z (omega arith))
+  | inr f ↦ rw f (lacks kind (suc k) plan z (omega arith))
 ]
-places-at s k (t ∷ plan) (suc j) z l e = elim (either (eqb s t)) [
+places-at kind k (t ∷ plan) (suc j) z l e = elim (either (kind t)) [
   | inl h ↦ rw (h, ne_eqb z k (λ q. absurd (omega (arith, q, e))))
-      (places-at s (suc k) plan j z (omega arith) (omega arith))
-  | inr f ↦ rw f (places-at s (suc k) plan j z (omega arith) (omega arith))
+      (places-at kind (suc k) plan j z (omega arith) (omega arith))
+  | inr f ↦ rw f (places-at kind (suc k) plan j z (omega arith) (omega arith))
 ]
 
 -- the orders of a slab from one on
 abbrev pub behind : List ℕ → ℕ → ℕ → List ℕ
-behind plan k s = places_from s k (drop k plan)
+behind plan k s = places_where (eqb s) k (drop k plan)
 
 behind-at : (plan : List ℕ) (k s z : ℕ) → k ≤ z → z < length plan →
     holds z (behind plan k s) ≡ eqb s (get_or plan z 0)
 behind-at plan k s z l h =
     let j : z ≡ k + (z - k) = omega arith in
-    places-at s k (drop k plan) (z - k) z (omega (arith, length-drop k plan)) j
+    places-at (eqb s) k (drop k plan) (z - k) z (omega (arith, length-drop k plan)) j
     ∙ ap (eqb s) (get_or-drop k plan (z - k) 0 ∙ ap (λ i. get_or plan i 0) (sym j))
 
 behind-in : (plan : List ℕ) (k s z : ℕ) → k ≤ length plan → holds z (behind plan k s) ≡ true →
     (k ≤ z) × (z < length plan)
 behind-in plan k s z l h = (
-  places-low s k (drop k plan) z h,
-  omega (arith, places-high s k (drop k plan) z h, length-drop k plan),
+  places-low (eqb s) k (drop k plan) z h,
+  omega (arith, places-high (eqb s) k (drop k plan) z h, length-drop k plan),
 )
 
 -- chains of the orders from one on
@@ -141,7 +141,7 @@ module _ (plan : List ℕ) (k : ℕ) (firsts nexts previous : List (Option ℕ))
 
   more : (r : ℕ) → behind plan k r
       ≡ cond (eqb r s) (k ∷ behind plan (suc k) s) (behind plan (suc k) r)
-  more r = ap (places_from r k) (drop-cons plan k 0 here) ∙ same (either (eqb r s))
+  more r = ap (places_where (eqb r) k) (drop-cons plan k 0 here) ∙ same (either (eqb r s))
     where
       same : (eqb r s ≡ true) ⊎ (eqb r s ≡ false) →
           cond (eqb r s) (k ∷ behind plan (suc k) r) (behind plan (suc k) r)
@@ -160,8 +160,8 @@ module _ (plan : List ℕ) (k : ℕ) (firsts nexts previous : List (Option ℕ))
         ∙ length-set_at (look firsts s) (Some k) previous ∙ made.previous_count;
     chained = λ r l. subst (λ xs. Chain n p None (look f r) xs) (sym (more r))
         (chains-with (length plan) firsts nexts previous (behind plan (suc k)) made.chained
-        (λ r l. places-apart r (suc k) (drop (suc k) plan)) one k s slab-low
-        (λ r l. lacks r (suc k) (drop (suc k) plan) k (omega arith)) f n p
+        (λ r l. places-apart (eqb r) (suc k) (drop (suc k) plan)) one k s slab-low
+        (λ r l. lacks (eqb r) (suc k) (drop (suc k) plan) k (omega arith)) f n p
         (λ r. ap (λ t. look t r) ef ∙ look-set firsts s (Some k) r
         (omega (arith, slab-low, made.firsts_count)))
         (λ z. ap (λ t. look t z) en ∙ look-set nexts k (look firsts s) z
@@ -180,11 +180,11 @@ module _ (plan : List ℕ) (k : ℕ) (firsts nexts previous : List (Option ℕ))
 
 -- the chains of all orders make the lists of the plan
 lists_of_plan-at : (plan : List ℕ) (s : ℕ) → s < length plan →
-    list_at (lists_of_plan plan) s ≡ places_from s 0 plan
+    list_at (lists_of_plan plan) s ≡ places_where (eqb s) 0 plan
 lists_of_plan-at plan s l =
-    get_or-map (λ s. places_from s 0 plan) (below (length plan)) s 0 []
+    get_or-map (λ s. places_where (eqb s) 0 plan) (below (length plan)) s 0 []
     (omega (arith, l, length-below (length plan)))
-    ∙ ap (λ t. places_from t 0 plan) (get_or-below (length plan) s l)
+    ∙ ap (λ t. places_where (eqb t) 0 plan) (get_or-below (length plan) s l)
 
 pub made-linked : (plan : List ℕ) (firsts nexts previous : List (Option ℕ)) →
     length plan ≤ MAX_ORDERS → All (λ s. s < length plan) plan →
@@ -196,19 +196,19 @@ made-linked plan firsts nexts previous few low made = record {
   previous_count = made.previous_count ∙ sym made.nexts_count;
   slabs_count = sym made.nexts_count;
   lists_count =
-      length-map (below (length plan)) (λ s. places_from s 0 plan)
+      length-map (below (length plan)) (λ s. places_where (eqb s) 0 plan)
       ∙ length-below (length plan) ∙ sym made.nexts_count;
   slabs_below = subst (λ m. All (λ s. s < m) plan) (sym made.nexts_count) low;
   chained = λ s l. (let here : s < length plan = omega (arith, l, made.nexts_count) in
       subst (λ xs. Chain nexts previous None (look firsts s) xs)
       (sym (lists_of_plan-at plan s here)) (made.chained s here));
   apart = λ s l. (let here : s < length plan = omega (arith, l, made.nexts_count) in
-      subst (λ xs. Apart xs) (sym (lists_of_plan-at plan s here)) (places-apart s 0 plan));
+      subst (λ xs. Apart xs) (sym (lists_of_plan-at plan s here)) (places-apart (eqb s) 0 plan));
   orders = λ s o l h. (let here : s < length plan = omega (arith, l, made.nexts_count) in
-      let range = places-high s 0 plan o
+      let range = places-high (eqb s) 0 plan o
       (subst (λ xs. holds o xs ≡ true) (lists_of_plan-at plan s here) h) in
       omega (arith, range, made.nexts_count));
   slab_is = λ s o l k. (let here : s < length plan = omega (arith, l, made.nexts_count) in
       ap (holds o) (lists_of_plan-at plan s here)
-      ∙ places-at s 0 plan o o (omega (arith, k, made.nexts_count)) (omega arith));
+      ∙ places-at (eqb s) 0 plan o o (omega (arith, k, made.nexts_count)) (omega arith));
 }

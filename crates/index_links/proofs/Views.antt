@@ -17,7 +17,7 @@ use Rattle.index_links.proofs.LinkedLists.{chain-after, chain-first, first-holds
 use Rattle.index_links.proofs.LinkedLists.{walk-is}
 
 -- a list without repeats has as many numbers as there are different ones
-apart-different : (xs : List ℕ) → Apart xs → different xs ≡ length xs
+pub apart-different : (xs : List ℕ) → Apart xs → different xs ≡ length xs
 apart-different [] a = refl
 apart-different (x ∷ xs) a = rw a.0 (ap suc (apart-different xs a.1))
 

@@ -1,5 +1,5 @@
 -- The orders of a plan, as a list for each slab.
-use Rattle.std.specs.Prelude.{ℕ, suc, ◌<◌, ◌≤◌, ◌≡◌, true, false, cond, List, [], ◌∷◌, map, length}
+use Rattle.std.specs.Prelude.{ℕ, suc, ◌<◌, ◌≤◌, ◌≡◌, Bool, true, false, cond, List, [], ◌∷◌, map, length}
 use Rattle.std.specs.Prelude.{eqb, slice_index_or, slice_set, slice_get, Option, None}
 use Rattle.list_laws.specs.Sets.{holds, below}
 use Rattle.list_laws.specs.Without.{without}
@@ -31,15 +31,15 @@ pub record AreSlabLists (lists : List (List ℕ)) : Type 0 where
       holds o (list_at lists s) ≡ eqb s (slab_in lists o)
   pub once : (s : ℕ) → s < length lists → Apart (list_at lists s)
 
--- the places from k on at which a number stands
-abbrev pub places_from : ℕ → ℕ → List ℕ → List ℕ
-places_from s k [] = []
-places_from s k (t ∷ plan) = cond (eqb s t) (k ∷ places_from s (suc k) plan)
-    (places_from s (suc k) plan)
+-- the places from k on at which a number of a kind stands
+abbrev pub places_where : (ℕ → Bool) → ℕ → List ℕ → List ℕ
+places_where kind k [] = []
+places_where kind k (t ∷ plan) = cond (kind t) (k ∷ places_where kind (suc k) plan)
+    (places_where kind (suc k) plan)
 
 -- the lists of a plan, with the orders of each slab rising
 abbrev pub lists_of_plan : List ℕ → List (List ℕ)
-lists_of_plan plan = map (λ s. places_from s 0 plan) (below (length plan))
+lists_of_plan plan = map (λ s. places_where (eqb s) 0 plan) (below (length plan))
 
 -- what comes after a number in a list
 abbrev pub after : ℕ → List ℕ → Option ℕ

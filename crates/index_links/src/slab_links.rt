@@ -1,6 +1,6 @@
 //! The lists of a plan: chains of orders by slab, and of each order its slab.
-ghost use Rattle.std.specs.Prelude.{◌≡◌, ◌<◌, ◌≤◌, All, IfOk, IfSome, length, slice_get};
-ghost use Rattle.std.specs.Prelude.{slice_set};
+ghost use Rattle.std.specs.Prelude.{◌≡◌, ◌+◌, ◌<◌, ◌≤◌, ◌++◌, All, IfOk, IfSome, length};
+ghost use Rattle.std.specs.Prelude.{slice_get, slice_set, take};
 ghost use Rattle.mill_model.specs.declared.order.TheConstants.{MAX_ORDERS};
 ghost use Rattle.index_links.specs.Lists.{AreSlabLists, after, list_at, lists_of_plan, moved};
 ghost use Rattle.index_links.specs.Lists.{plan_of, slab_in};
@@ -51,6 +51,14 @@ impl SlabLinks {
         Ok(SlabLinks { chains, slabs })
     }
 
+    /// How many orders there are, which is also the number of slabs.
+    pub fn len(&self) -> u16
+        ensures is { result ≡ length self.now }
+        ensures kept { AreSlabLists self.now }
+    {
+        self.slabs.len() as u16
+    }
+
     /// The first order of a slab.
     pub fn first(&self, slab: u16) -> Option<u16>
         requires { slab < length self.now }
@@ -69,6 +77,24 @@ impl SlabLinks {
         ensures kept { AreSlabLists self.now }
     {
         self.chains.nexts[order as usize]
+    }
+
+    /// Writes the list of a slab into `places`, from place `from` on, and gives the place behind it.
+    pub fn write_list(&self, slab: u16, places: &mut [u16], from: usize) -> usize
+        requires slab { slab < length self.now }
+        requires room { from + length (list_at self.now slab) ≤ length places.old }
+        ensures list { take result places.new ≡ take from places.old ++ list_at self.now slab }
+        ensures end { result ≡ from + length (list_at self.now slab) }
+        ensures kept { AreSlabLists self.now }
+    {
+        let mut end = from;
+        let mut next = self.first(slab);
+        while let Some(order) = next {
+            places[end] = order;
+            end += 1;
+            next = self.next(order);
+        }
+        end
     }
 
     /// The slab whose list an order is in.

@@ -37,6 +37,20 @@ fn an_order_goes_first_into_another_list(rt: HostRuntime) -> Result<(), Fail> {
     Ok(())
 }
 
+#[test]
+fn lists_are_written_one_behind_the_other(rt: HostRuntime) -> Result<(), Fail> {
+    let alloc = rt.alloc();
+    let plan = Plan::from_list(vec![in alloc; 1, 0, 1, 1]?);
+    let links = SlabLinks::new(alloc, &plan)?;
+    let mut places = [9; 8];
+    assert_eq!(rt; links.len(), 4);
+    let end = links.write_list(1, &mut places, 1);
+    assert_eq!(rt; links.write_list(0, &mut places, end), 5);
+    assert_eq!(rt; places.as_slice(), [9, 0, 2, 3, 1, 9, 9, 9].as_slice());
+    assert_eq!(rt; links.write_list(2, &mut places, 7), 7);
+    Ok(())
+}
+
 const ORDERS: u16 = 40;
 
 // The list that plain lists of slab numbers and of the times of the moves give: the orders of the

@@ -3,18 +3,23 @@ use Rattle.std.proofs.Common.{ℕ, zero, suc, ◌+◌, ◌<◌, ◌≤◌, ◌�
 use Rattle.std.proofs.Common.{not, List, [], ◌∷◌, map, length, eqb, leb, ltb, refl, sym, ap, ap₂}
 use Rattle.std.proofs.Common.{◌∙◌, arith, inl, inr, subst, leb-true, eq-eqb, eqb-true, ne_eqb}
 use Rattle.std.proofs.Common.{lt-ltb, ltb-true, false-eqb, eq-or-lt_of_le}
-use Rattle.std.specs.List.{list_all}
+use Rattle.std.specs.List.{All, list_all}
+use Rattle.std.proofs.lemmas.List.Elements.{All-from_get_or}
 use Rattle.list_laws.specs.Sets.{chosen, holds, total}
 use Rattle.mill_model.specs.Slab.{Mill, load, legal}
-use Rattle.mill_model.specs.Plan.{slab, loss, IsLegalPlan}
+use Rattle.mill_model.specs.Plan.{slab, loss, numbers_each, IsLegalPlan}
 use Rattle.mill_model.specs.Pairs.{complement, one_of, pair_loss, pair_orders, split_loss}
 use Rattle.mill_model.specs.Pairs.{legal_split}
 use Rattle.mill_model.specs.declared.order.Order.{Order}
 use Rattle.list_laws.proofs.Tests.{and-left, and-right, clash, last-or-below, either, or-cases}
+use Rattle.list_laws.proofs.Tests.{or-right}
 use Rattle.list_laws.proofs.Sums.{total-cong, total-zero, each_below-at, each_below-from}
 use Rattle.large_moves.specs.Moves.{split_plan, IsSecond}
 use Rattle.pair_split.specs.Splits.{IsCheapestSplit, grouped, front, colours_in}
 use Rattle.pair_split.proofs.Front.{chosen-lacks}
+use Rattle.index_links.specs.Lists.{plan_of}
+use Rattle.index_links.proofs.Members.{plan-count}
+use Rattle.plan_check.proofs.Slabs.{each-below, each-length}
 use Rattle.large_moves.specs.Laid.{StayElsewhere}
 use Rattle.large_moves.proofs.LaidAnew.{slab-first, slab-second, slab-other, marks-other}
 use Rattle.large_moves.proofs.LaidAnew.{split-length, split-below, total-two}
@@ -411,6 +416,38 @@ move-betters mill charge z orders plan a b c bound rise second used h is set bes
             let q : eqb s b ≡ false = ne_eqb s b (λ r. n (r ∙ sym l)) in
             rw (p, q) refl
 
+-- the marked orders of a pair lie on its first slab, and the others on the second
+pub split-slabs : (orders : List Order) (plan : List ℕ) (a b c : ℕ) → a ≤ b →
+    holds a plan ≡ true → length plan ≡ length orders → (set : List Bool) →
+    length set ≡ length (pair_orders orders plan a b) → IsSecond plan a b c →
+    (slab a (split_plan (one_of a b) set a c plan) orders
+    ≡ chosen set (pair_orders orders plan a b))
+    × (slab c (split_plan (one_of a b) set a c plan) orders
+    ≡ chosen (complement set) (pair_orders orders plan a b))
+split-slabs orders plan a b c rise used same set whole second = (
+  slab-first (one_of a b) a c first-one apart set plan orders,
+  slab-second (one_of a b) a c apart set plan orders same whole second-one,
+)
+  where
+    first-one : one_of a b a ≡ true
+    first-one = let e : eqb a a ≡ true = eq-eqb a a refl in rw e refl
+
+    last-one : one_of a b b ≡ true
+    last-one = or-right (eqb b a) (eqb b b || false) (let e : eqb b b ≡ true = eq-eqb b b refl in
+        rw e refl)
+
+    apart : a ≢ c
+    apart q = elim (eq-or-lt_of_le {n = a} {m = b} rise) [
+      | inl e ↦ clash (holds c plan) (subst (λ s. holds s plan ≡ true) q used) (second.one e)
+      | inr l ↦ absurd (omega (arith, q, l, second.two l))
+    ]
+
+    second-one : (one_of a b c ≡ true) ⊎ (holds c plan ≡ false)
+    second-one = elim (eq-or-lt_of_le {n = a} {m = b} rise) [
+      | inl e ↦ inr (second.one e)
+      | inr l ↦ inl (subst (λ s. one_of a b s ≡ true) (sym (second.two l)) last-one)
+    ]
+
 -- a second slab there is
 pub second-exists : (mill : Mill) (charge : ℕ → ℕ) → charge 0 ≡ 0 →
     (orders : List Order) (plan : List ℕ) (a b bound : ℕ) → b < length orders →
@@ -467,3 +504,18 @@ pub plan-length : (mill : Mill) (orders : List Order) (plan : List ℕ) →
     IsLegalPlan mill orders plan → length plan ≡ length orders
 plan-length mill orders plan h =
     eqb-true _ _ (and-left (eqb (length plan) (length orders)) _ h.each)
+
+-- lists whose plan is one of the orders have their number
+pub linked-length : (mill : Mill) (orders : List Order) (lists : List (List ℕ)) →
+    IsLegalPlan mill orders (plan_of lists) → length lists ≡ length orders
+linked-length mill orders lists h =
+    sym (plan-count lists) ∙ plan-length mill orders (plan_of lists) h
+
+-- a plan of some orders gives each a slab below their number
+pub plan-below : (plan : List ℕ) (orders : List Order) → numbers_each plan orders ≡ true →
+    All (λ s. s < length plan) plan
+plan-below plan orders each =
+    All-from_get_or (λ s. s < length plan) plan 0
+    (λ k l. (let long = each-length plan orders each in
+    let low = each-below plan orders k each (omega (arith, l, long)) in
+    omega (arith, low, long)))

@@ -7,12 +7,14 @@ use Rattle.mill_model.specs.Plan.{loss, IsLegalPlan}
 use Rattle.list_laws.specs.Sets.{holds}
 use Rattle.mill_model.specs.Slab.{Mill}
 use Rattle.mill_model.specs.declared.order.Order.{Order}
+use Rattle.index_links.specs.Lists.{AreSlabLists, plan_of}
 use Rattle.large_moves.specs.Laid.{Laid, IsMover, AreLoads}
+use Rattle.large_moves.specs.declared.room.Room.{Room}
 use Rattle.large_moves.proofs.Betters.{plan-length, legal-load}
 use Rattle.large_moves.proofs.Loads.{used-load}
 
-module _ (held : Laid) (loads : List ℕ) (items : List Order) (marks : List Bool)
-    (mover : IsMover held loads items marks) (s : ℕ) (s_in : s < length held.orders) where
+module _ (held : Laid) (lists : List (List ℕ)) (loads : List ℕ) (room : Room)
+    (marks : List Bool) (mover : IsMover held lists loads room marks) (s : ℕ) (s_in : s < length held.orders) where
   -- a slab is used where it has a load
   pub held-used : holds s held.plan ≡ ltb 0 (get_or loads s 0)
   held-used =
@@ -26,29 +28,27 @@ module _ (held : Laid) (loads : List ℕ) (items : List Order) (marks : List Boo
       let light = legal-load held.mill held.orders held.plan s mover.is_laid.is_legal s_in in
       omega (arith, light, mover.are_loads.at s s_in)
 
--- the same parts by other names
-pub mover-of : (mill : Mill) (orders : List Order) (plan new_plan loads new_loads : List ℕ)
-    (items new_items : List Order) (marks new_marks : List Bool) →
-    plan ≡ new_plan → loads ≡ new_loads → items ≡ new_items → marks ≡ new_marks →
-    IsMover (record { mill = mill; orders = orders; plan = new_plan }) new_loads new_items
-    new_marks →
-    IsMover (record { mill = mill; orders = orders; plan = plan }) loads items marks
-mover-of mill orders plan new_plan loads new_loads items new_items marks new_marks a b c d h =
-    rw (a, b, c, d) h
+-- the same loads and marks by other names
+pub mover-of : (held : Laid) (lists : List (List ℕ)) (loads new_loads : List ℕ) (room : Room)
+    (marks new_marks : List Bool) → loads ≡ new_loads → marks ≡ new_marks →
+    IsMover held lists new_loads room new_marks → IsMover held lists loads room marks
+mover-of held lists loads new_loads room marks new_marks a b h = rw (a, b) h
 
 -- what a mover holds after its plan changed
-pub moved-held : (mill new_mill : Mill) (orders : List Order)
-    (plan new_plan loads new_loads : List ℕ) (items new_items : List Order)
-    (marks new_marks : List Bool) →
-    IsMover (record { mill = mill; orders = orders; plan = plan }) loads items marks →
-    new_mill ≡ mill → IsLegalPlan mill orders new_plan → AreLoads orders new_plan new_loads →
-    length new_items ≡ length items → length new_marks ≡ length marks →
-    IsMover (record { mill = new_mill; orders = orders; plan = new_plan }) new_loads new_items
-    new_marks
-moved-held mill new_mill orders plan new_plan loads new_loads items new_items marks new_marks
-    held same is_legal are_loads item_room mark_room =
-    subst (λ m. IsMover (record { mill = m; orders = orders; plan = new_plan }) new_loads
-    new_items new_marks) (sym same)
+pub moved-held : (mill new_mill : Mill) (orders : List Order) (lists new_lists : List (List ℕ))
+    (loads new_loads : List ℕ) (room new_room : Room) (marks new_marks : List Bool) →
+    IsMover (record { mill = mill; orders = orders; plan = plan_of lists }) lists loads room marks →
+    new_mill ≡ mill → IsLegalPlan mill orders (plan_of new_lists) → AreSlabLists new_lists →
+    AreLoads orders (plan_of new_lists) new_loads →
+    length new_room.places.items ≡ length room.places.items →
+    length new_room.items.items ≡ length room.items.items →
+    length new_marks ≡ length marks →
+    IsMover (record { mill = new_mill; orders = orders; plan = plan_of new_lists }) new_lists
+    new_loads new_room new_marks
+moved-held mill new_mill orders lists new_lists loads new_loads room new_room marks new_marks
+    held same is_legal are_lists are_loads place_room item_room mark_room =
+    subst (λ m. IsMover (record { mill = m; orders = orders; plan = plan_of new_lists }) new_lists
+    new_loads new_room new_marks) (sym same)
     (record {
       is_laid = record {
         sizes = held.is_laid.sizes;
@@ -58,14 +58,16 @@ moved-held mill new_mill orders plan new_plan loads new_loads items new_items ma
         together = held.is_laid.together;
         is_legal = is_legal;
       };
+      are_lists = are_lists;
       are_loads = are_loads;
+      place_room = place_room ∙ held.place_room;
       item_room = item_room ∙ held.item_room;
       mark_room = mark_room ∙ held.mark_room;
     })
 
--- a lesser loss by other names
-pub less-by : (charge : ℕ → ℕ) (orders given : List Order) (plan before new after : List ℕ) →
-    given ≡ orders → before ≡ plan → after ≡ new →
-    loss charge new given < loss charge before given →
-    loss charge after orders < loss charge plan orders
-less-by charge orders given plan before new after e f g h = rw (g, ← e, ← f) h
+-- a lesser loss of orders by another name
+pub less-by : (charge : ℕ → ℕ) (orders given : List Order) (plan new : List ℕ) →
+    given ≡ orders → loss charge new given < loss charge plan given →
+    loss charge new orders < loss charge plan orders
+less-by charge orders given plan new e h =
+    subst (λ xs. loss charge new xs < loss charge plan xs) e h

@@ -1,7 +1,7 @@
 -- Plans whose orders on two slabs lie anew.
 use Rattle.std.proofs.Common.{ℕ, zero, suc, ◌+◌, ◌<◌, ◌≡◌, ◌≢◌, ◌⊎◌, Bool, true, false, cond, ◌||◌}
-use Rattle.std.proofs.Common.{List, [], ◌∷◌, ◌++◌, map, length, take, eqb, ltb, refl, sym, ap, ◌∙◌}
-use Rattle.std.proofs.Common.{arith, inl, inr, subst, get_or, eq-eqb, ne_eqb, lt-ltb, false-eqb}
+use Rattle.std.proofs.Common.{List, [], ◌∷◌, map, length, eqb, ltb, refl, sym, ap, ◌∙◌}
+use Rattle.std.proofs.Common.{arith, inl, inr, subst, eq-eqb, ne_eqb, lt-ltb, false-eqb}
 use Rattle.std.specs.List.{list_all}
 use Rattle.list_laws.specs.Sets.{chosen, holds, total}
 use Rattle.mill_model.specs.Plan.{slab}
@@ -10,21 +10,6 @@ use Rattle.mill_model.specs.declared.order.Order.{Order}
 use Rattle.list_laws.proofs.Tests.{and-left, and-right, last-or-below, either}
 use Rattle.list_laws.proofs.Sums.{total-cong}
 use Rattle.large_moves.specs.Moves.{first_mark, further, split_plan}
-
-pub chosen-more : (p : ℕ → Bool) (i : ℕ) (plan : List ℕ) (orders : List Order) (d : Order) →
-    i < length plan → i < length orders →
-    chosen (map p (take (suc i) plan)) (take (suc i) orders)
-    ≡ chosen (map p (take i plan)) (take i orders)
-    ++ cond (p (get_or plan i 0)) (get_or orders i d ∷ []) []
-chosen-more p i [] orders d h k = absurd (omega arith)
-chosen-more p i (t ∷ plan) [] d h k = absurd (omega arith)
-chosen-more p zero (t ∷ plan) (o ∷ orders) d h k = one (p t)
-  where
-    one : (b : Bool) → cond b (o ∷ []) [] ≡ cond b (o ∷ []) []
-    one b = refl
-chosen-more p (suc i) (t ∷ plan) (o ∷ orders) d h k =
-    let ih = chosen-more p i plan orders d (omega arith) (omega arith) in
-    elim (either (p t)) [ inl e ↦ rw e (ap (λ l. o ∷ l) ih) | inr e ↦ rw e ih ]
 
 other-than : (kind : ℕ → Bool) (s t : ℕ) → kind s ≡ true → kind t ≡ false → eqb s t ≡ false
 other-than kind s t h k = ne_eqb s t (λ e. apart (subst (λ z. kind z ≡ true) e h) k)

@@ -1,5 +1,6 @@
 pub mod Loads
 pub mod LaidAnew
+pub mod PairPlaces
 pub mod Betters
 pub mod Held
 pub mod Scanned

@@ -6,38 +6,42 @@ use Rattle.std.proofs.lemmas.Bool.{cases_eq}
 use Rattle.std.proofs.lemmas.List.{length-set}
 use Rattle.std.specs.List.{AllByRecursion}
 use Rattle.mill_model.specs.Instance.{IsOrder}
-use Rattle.list_laws.specs.Sets.{holds}
+use Rattle.list_laws.specs.Sets.{chosen, holds}
+use Rattle.mill_model.specs.Pairs.{complement}
 use Rattle.mill_model.specs.Slab.{load}
 use Rattle.mill_model.specs.Plan.{slab}
 use Rattle.mill_model.specs.declared.order.Order.{Order}
 use Rattle.list_laws.proofs.Tests.{either}
 use Rattle.large_moves.specs.Laid.{AreLoads}
 
--- one more order of a slab
-pub load-more : (s i : ℕ) (plan : List ℕ) (orders : List Order) (d : Order) → i < length plan →
-    i < length orders → load (slab s (take (suc i) plan) (take (suc i) orders))
-    ≡ load (slab s (take i plan) (take i orders))
-    + cond (eqb s (get_or plan i 0)) (get_or orders i d).weight 0
-load-more s i [] orders d h k = absurd (omega arith)
-load-more s i (t ∷ plan) [] d h k = absurd (omega arith)
-load-more s zero (t ∷ plan) (o ∷ orders) d h k = one (eqb s t)
-  where
-    one : (b : Bool) → load (cond b (o ∷ []) []) ≡ 0 + cond b o.weight 0
-    one true = omega arith
-    one false = omega arith
-load-more s (suc i) (t ∷ plan) (o ∷ orders) d h k =
-    let rest : load (slab s (take (suc i) plan) (take (suc i) orders))
-    ≡ load (slab s (take i plan) (take i orders))
-    + cond (eqb s (get_or plan i 0)) (get_or orders i d).weight 0 =
-    load-more s i plan orders d (omega arith) (omega arith) in
-    step (eqb s t) (slab s (take (suc i) plan) (take (suc i) orders))
-    (slab s (take i plan) (take i orders))
-    (cond (eqb s (get_or plan i 0)) (get_or orders i d).weight 0) rest
-  where
-    step : (b : Bool) (x y : List Order) (n : ℕ) → load x ≡ load y + n →
-        load (cond b (o ∷ x) x) ≡ load (cond b (o ∷ y) y) + n
-    step true x y n e = omega arith
-    step false x y n e = e
+-- one more order of the marked ones, or of the others
+pub marked-more : (i : ℕ) (marks : List Bool) (orders : List Order) (d : Order) → i < length marks →
+    i < length orders →
+    load (chosen (take (suc i) marks) (take (suc i) orders))
+    ≡ load (chosen (take i marks) (take i orders))
+    + cond (get_or marks i false) (get_or orders i d).weight 0
+marked-more i [] orders d h k = absurd (omega arith)
+marked-more i (m ∷ marks) [] d h k = absurd (omega arith)
+marked-more zero (true ∷ marks) (o ∷ orders) d h k = omega arith
+marked-more zero (false ∷ marks) (o ∷ orders) d h k = omega arith
+marked-more (suc i) (true ∷ marks) (o ∷ orders) d h k =
+    let rest = marked-more i marks orders d (omega arith) (omega arith) in omega (arith, rest)
+marked-more (suc i) (false ∷ marks) (o ∷ orders) d h k =
+    marked-more i marks orders d (omega arith) (omega arith)
+
+pub unmarked-more : (i : ℕ) (marks : List Bool) (orders : List Order) (d : Order) → i < length marks →
+    i < length orders →
+    load (chosen (complement (take (suc i) marks)) (take (suc i) orders))
+    ≡ load (chosen (complement (take i marks)) (take i orders))
+    + cond (get_or marks i false) 0 (get_or orders i d).weight
+unmarked-more i [] orders d h k = absurd (omega arith)
+unmarked-more i (m ∷ marks) [] d h k = absurd (omega arith)
+unmarked-more zero (true ∷ marks) (o ∷ orders) d h k = omega arith
+unmarked-more zero (false ∷ marks) (o ∷ orders) d h k = omega arith
+unmarked-more (suc i) (true ∷ marks) (o ∷ orders) d h k =
+    unmarked-more i marks orders d (omega arith) (omega arith)
+unmarked-more (suc i) (false ∷ marks) (o ∷ orders) d h k =
+    let rest = unmarked-more i marks orders d (omega arith) (omega arith) in omega (arith, rest)
 
 -- the loads after two slabs were laid anew
 pub loads-moved : (orders : List Order) (plan new loads : List ℕ) (a c x y : ℕ) →

@@ -7,6 +7,8 @@ use Rattle.mill_model.specs.Slab.{Mill, load}
 use Rattle.mill_model.specs.declared.order.Order.{Order}
 use Rattle.mill_model.specs.declared.order.TheConstants.{MAX_ORDERS}
 use Rattle.pair_split.specs.Splits.{grouped}
+use Rattle.index_links.specs.Lists.{AreSlabLists}
+use Rattle.large_moves.specs.declared.room.Room.{Room}
 
 pub record Laid : Type 0 where
   pub mill : Mill
@@ -40,11 +42,13 @@ pub record AreLoads (orders : List Order) (plan loads : List ℕ) : Type 0 where
   pub count : length loads ≡ length orders
   pub at : (s : ℕ) → s < length orders → slice_index loads s ≡ load (slab s plan orders)
 
--- what a mover holds: laid orders, the loads of their slabs, and room for the orders of a pair and
--- their marks
-pub record IsMover (held : Laid) (loads : List ℕ) (items : List Order) (marks : List Bool) : Type 0
-  where
-    pub is_laid : IsLaid held
-    pub are_loads : AreLoads held.orders held.plan loads
-    pub item_room : length items ≡ length held.orders
-    pub mark_room : length marks ≡ length held.orders
+-- what a mover holds: laid orders, the lists and the loads of their slabs, and room for the orders
+-- of a pair and their marks
+pub record IsMover (held : Laid) (lists : List (List ℕ)) (loads : List ℕ) (room : Room)
+    (marks : List Bool) : Type 0 where
+  pub is_laid : IsLaid held
+  pub are_lists : AreSlabLists lists
+  pub are_loads : AreLoads held.orders held.plan loads
+  pub place_room : length room.places.items ≡ length held.orders
+  pub item_room : length room.items.items ≡ length held.orders
+  pub mark_room : length marks ≡ length held.orders

@@ -9,6 +9,7 @@ pub mod laws;
 mod mover;
 mod moves;
 mod pair;
+mod room;
 mod scan;
 mod slabs;
 mod tries;

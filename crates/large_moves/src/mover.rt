@@ -15,9 +15,11 @@ use crate::by_colour::{orders_alone, read_plan};
 use crate::closed::Closed;
 use crate::coloured::Coloured;
 use crate::pair::{ChargedOrders, Pair, try_split};
+use crate::room::Room;
 use crate::scan::Scan;
 use crate::tries::Tries;
-use mill_model::{Charges, Order, OutOfMemory};
+use index_links::SlabLinks;
+use mill_model::{Charges, Order, OutOfMemory, Plan};
 use order_symmetry::Ranked;
 use pair_split::Splitter;
 use plan_check::slab_loads;
@@ -29,16 +31,17 @@ use std::marker::Model;
 #[derive(Debug, Drop)]
 pub struct Mover {
     orders: Vec<Order>,
-    plan: Vec<u16>,
+    links: SlabLinks,
     // The load of each slab.
     loads: Vec<u64>,
     splitter: Splitter,
-    // Room for the orders of a pair, and for which of them go to its first slab.
-    items: Vec<Order>,
+    room: Room,
+    // Which of the orders of a pair go to its first slab.
     marks: Vec<bool>,
 }
 
 impl Model for Mover {
+    ghost use Rattle.index_links.specs.Lists.{plan_of as listed_plan};
     ghost use Rattle.large_moves.specs.Laid.{Laid, IsMover};
 
     ghost Value = { Laid };
@@ -46,14 +49,14 @@ impl Model for Mover {
     ghost view = { λ m. record {
       mill = m.splitter;
       orders = m.orders.items;
-      plan = m.plan.items;
+      plan = listed_plan m.links;
     } };
 
     ghost invariant = { λ m. IsMover (record {
       mill = m.splitter;
       orders = m.orders.items;
-      plan = m.plan.items;
-    }) m.loads.items m.items.items m.marks.items };
+      plan = listed_plan m.links;
+    }) m.links m.loads.items m.room m.marks.items };
 }
 
 impl Mover {
@@ -78,24 +81,25 @@ impl Mover {
         let orders = orders_alone(alloc, coloured)?;
         let plan = read_plan(alloc, coloured, slabs)?;
         let loads = slab_loads(alloc, &orders, &plan)?;
-        let items = orders.to_vec(alloc)?;
+        let room = Room::new(alloc, &orders)?;
         let marks = vec![in alloc; false; orders.len()]?;
+        let links = SlabLinks::new(alloc, &Plan::from_list(plan))?;
         Ok(Mover {
             orders,
-            plan,
+            links,
             loads,
             splitter,
-            items,
+            room,
             marks,
         })
     }
 
     /// The slabs of the orders.
-    pub fn plan(&self) -> &[u16]
-        ensures is { result.now ≡ self.now.plan }
+    pub fn to_plan(&self, alloc: Global) -> Result<Plan, OutOfMemory>
+        ensures is { IfOk result (λ plan. plan ≡ self.now.plan) }
         ensures kept { IsLaid self.now }
     {
-        &self.plan
+        self.links.to_plan(alloc)
     }
 
     /// What the plan loses.
@@ -172,13 +176,13 @@ impl Mover {
     {
         try_split(
             &mut self.splitter,
-            &mut self.items,
+            &mut self.room,
             &mut self.marks,
             &ChargedOrders {
                 list: &self.orders,
                 charges,
             },
-            &mut self.plan,
+            &mut self.links,
             &mut self.loads,
             pair,
         )
@@ -271,7 +275,7 @@ impl Mover {
         ensures orders { result ≡ length self.now.orders }
         ensures plan { result ≡ length self.now.plan }
     {
-        self.plan.len() as u16
+        self.links.len()
     }
 
     /// Moves until all pairs are closed, or the tries are spent.

@@ -44,6 +44,7 @@ pub fn pair_moves(
     if loss == start.loss {
         return Ok((start, closed));
     }
-    let plan = put_back(alloc, &coloured, mover.plan())?;
+    let laid = mover.to_plan(alloc)?;
+    let plan = put_back(alloc, &coloured, laid.slabs())?;
     Ok((Start { plan, loss }, closed))
 }

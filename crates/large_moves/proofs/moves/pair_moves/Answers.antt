@@ -70,11 +70,11 @@ close-closed-requires-clause-times c =
 
 pub put_back-requires-clause-plan : goal.put_back-requires-clause-plan
 put_back-requires-clause-plan c =
-    let laid = c.plan.ensures.kept in
+    let laid = c.to_plan.ensures.kept in
     let begins = c.in_ok-mover.ensures ∙ laid-from c.args.ranked.now.mill
     c.in_ok-coloured.coloured.items c.deref.result.now c.args.start.plan c.slabs.result.now
     c.deref.ensures.value c.slabs.ensures in
-    ap length c.plan.ensures.is
+    ap length (c.slabs-2.ensures ∙ c.in_ok-laid.ensures.is)
     ∙ plan-length c.close-closed.new.self.mill c.close-closed.new.self.orders
     c.close-closed.new.self.plan laid.is_legal
     ∙ ap length (c.close-closed.ensures.same.orders ∙ ap (λ (laid : Laid). laid.orders) begins)
@@ -125,9 +125,9 @@ promise c orders placed =
     (subst (λ moves. ClosesPairs (charge_of c.args.charges.now) c.in_ok-mover.mover
     c.close-closed.new.self moves c.close-closed.result) c.in_ok-tries.ensures.left
     c.close-closed.ensures.moved) c.close-closed.ensures.same
-    (sym c.plan.ensures.is ∙ sym c.in_ok-plan.ensures.back
+    (sym (c.slabs-2.ensures ∙ c.in_ok-laid.ensures.is) ∙ sym c.in_ok-plan.ensures.back
     ∙ ap (λ cs. plan_of cs c.in_ok-plan.plan) c.deref-2.ensures.value)
-    c.plan.ensures.kept.is_legal c.loss-loss.ensures
+    c.to_plan.ensures.kept.is_legal c.loss-loss.ensures
 
 pub returns-clause-no_worse : goal.returns-clause-no_worse
 returns-clause-no_worse c orders placed = (promise c orders placed).0

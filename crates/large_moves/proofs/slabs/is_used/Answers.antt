@@ -1,9 +1,8 @@
-use Rattle.std.proofs.Common.{◌≡◌, ◌∙◌, ◌==◌, rules}
-use Rattle.std.specs.List.{list_any}
-use Rattle.slab_rules.proofs.Joined.{any-holds}
+use Rattle.std.proofs.Common.{◌∙◌, ap}
+use Rattle.std.specs.Option.{is_some}
+use Rattle.index_links.proofs.Members.{used-first}
 use Rattle.large_moves.proofs.slabs.is_used.Goals as goal
 
 pub returns : goal.returns
-returns c =
-    let found : c.contains.result ≡ list_any (λ x. x == c.args.s) c.args.plan.now = search rules in
-    found ∙ any-holds c.args.s c.args.plan.now
+returns c = c.is_some.ensures ∙ ap is_some c.first.ensures.is
+    ∙ used-first c.args.links.now c.first.ensures.kept c.args.s c.requires

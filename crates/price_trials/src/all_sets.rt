@@ -1,11 +1,33 @@
-//! Prices at the nodes of a small instance beside minima over all sets, written plainly.
+//! Prices and their worth at a small node, as minima over all sets of orders, written plainly. The
+//! one size is 4.
+ghost use Rattle.std.specs.Prelude.{◌≡◌, IfOk, length};
 
-use crate::mill::{all_fit, charges_to_four, node_at, ranked_of};
-use column_price::NodePrices;
-use mill_model::{Order, OutOfMemory};
+use mill_model::{Charges, Order, OutOfMemory};
 use order_symmetry::Ranked;
 use std::alloc::Global;
-use std::test::Fail;
+
+/// What a slab with something on it is charged: so many times what it loses, and something more.
+#[derive(Clone, Copy)]
+pub struct Charging {
+    pub times: u8,
+    pub more: u8,
+}
+
+impl Charging {
+    /// The charges of all loads.
+    pub fn table(self, alloc: Global) -> Result<Charges, OutOfMemory>
+        ensures { IfOk result (λ charges. length charges.list ≡ 5) }
+    {
+        let (times, more) = (u64::from(self.times), u64::from(self.more));
+        Ok(Charges::from_list(vec![in alloc;
+            0,
+            3 * times + more,
+            2 * times + more,
+            times + more,
+            more,
+        ]?))
+    }
+}
 
 /// The load of a slab, and its colours as the bits of a number.
 #[derive(Clone, Copy)]
@@ -32,12 +54,16 @@ impl Slab {
         self.load <= 4 && self.colours.count_ones() <= u32::from(p)
     }
 
-    /// Sixty times what it loses then.
-    fn charge(self) -> i64 {
+    /// Sixty times its charge then.
+    fn charge(self, charging: Charging) -> i64 {
         if self.load == 0 {
             0
         } else {
-            60 * (4 - i64::from(self.load))
+            let lost = 4 - i64::from(self.load);
+            let charged = i64::from(charging.times).saturating_mul(lost);
+            charged
+                .saturating_add(i64::from(charging.more))
+                .saturating_mul(60)
         }
     }
 }
@@ -78,14 +104,21 @@ fn difference(a: Option<i64>, b: Option<i64>) -> Option<i64> {
 
 /// A node with at most five later orders.
 #[derive(Drop)]
-struct Small {
+pub struct Small {
     p: u8,
+    charging: Charging,
     groups: Vec<Slab>,
     rest: Vec<Order>,
 }
 
 impl Small {
-    fn of(alloc: Global, ranked: &Ranked, numbers: &[u16]) -> Result<Small, OutOfMemory> {
+    /// The node that these numbers lead to.
+    pub fn of(
+        alloc: Global,
+        ranked: &Ranked,
+        numbers: &[u16],
+        charging: Charging,
+    ) -> Result<Small, OutOfMemory> {
         let mut groups: Vec<Slab> = Vec::new(alloc);
         let mut rest = Vec::new(alloc);
         for rank in 0..ranked.len() {
@@ -100,6 +133,7 @@ impl Small {
         }
         Ok(Small {
             p: ranked.p(),
+            charging,
             groups,
             rest,
         })
@@ -123,13 +157,17 @@ impl Small {
                 }
             }
             if joined.is_legal(self.p) && sets.count(set) {
-                least = lesser(least, Some(joined.charge().saturating_sub(paid)));
+                least = lesser(
+                    least,
+                    Some(joined.charge(self.charging).saturating_sub(paid)),
+                );
             }
         }
         least
     }
 
-    fn ascent(&self, alloc: Global) -> Result<Vec<i64>, OutOfMemory> {
+    /// The ascent's prices.
+    pub fn ascent(&self, alloc: Global) -> Result<Vec<i64>, OutOfMemory> {
         let zeros = vec![in alloc; 0i64; self.rest.len()]?;
         let mut prices = vec![in alloc; 0i64; self.rest.len()]?;
         for i in 0..5 {
@@ -146,7 +184,8 @@ impl Small {
         Ok(prices)
     }
 
-    fn sweep(&self, prices: &mut [i64]) {
+    /// One sweep of these prices.
+    pub fn sweep(&self, prices: &mut [i64]) {
         for i in 0..5 {
             if let Some(price) = prices.get_mut(i as usize) {
                 *price = 0;
@@ -163,7 +202,8 @@ impl Small {
         }
     }
 
-    fn worth(&self, prices: &[i64]) -> i64 {
+    /// What prices are worth that are valid.
+    pub fn worth(&self, prices: &[i64]) -> i64 {
         let mut worth = 0i64;
         for &group in &self.groups {
             worth = worth.saturating_add(self.least(group, prices, Sets::All).unwrap_or(0));
@@ -173,49 +213,4 @@ impl Small {
         }
         worth
     }
-}
-
-/// Whether the ascent's prices, those after one sweep, and their worths are at a node what they are
-/// over all sets.
-fn is_exact(alloc: Global, ranked: &Ranked, numbers: &[u16]) -> Result<bool, OutOfMemory> {
-    let node = node_at(alloc, ranked, numbers)?;
-    if ranked.largest() != 4 || !all_fit(ranked) || node.depth() as usize != numbers.len() {
-        return Ok(false);
-    }
-    let charges = charges_to_four(alloc)?;
-    let small = Small::of(alloc, ranked, numbers)?;
-    let mut priced = NodePrices::ascend(alloc, &node, &charges)?;
-    let mut prices = small.ascent(alloc)?;
-    let ascent = priced.worth() == small.worth(&prices);
-    priced.improve();
-    small.sweep(&mut prices);
-    let swept = priced.worth() == small.worth(&prices);
-    Ok(ascent && swept && priced.into_prices().list() == prices.as_slice())
-}
-
-/// They stand in rank as they are written.
-const FIVE_ORDERS: [(u32, u16); 5] = [(2, 1), (2, 2), (1, 1), (1, 2), (1, 3)];
-
-/// Nodes, and with how many colours a slab they are in the tree.
-const NODES: [(u8, &[u16]); 7] = [
-    (1, &[]),
-    (1, &[0, 1]),
-    (1, &[0, 1, 0]),
-    (1, &[0, 1, 2, 1]),
-    (2, &[0, 0]),
-    (2, &[0, 1, 1]),
-    (2, &[0, 1, 2, 0]),
-];
-
-#[test]
-fn nodes_of_a_small_tree(rt: HostRuntime) -> Result<(), Fail> {
-    let alloc = rt.alloc();
-    for p in 1..5 {
-        let ranked = ranked_of(alloc, &FIVE_ORDERS, p)?;
-        for i in 0..NODES.len() {
-            let (least_p, numbers) = NODES[i];
-            assert!(rt; p < least_p || is_exact(alloc, &ranked, numbers)?);
-        }
-    }
-    Ok(())
 }

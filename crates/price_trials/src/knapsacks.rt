@@ -1,5 +1,5 @@
 //! Least slacks of three orders. Prices and slacks are in sixtieths of a loss unit.
-ghost use Rattle.std.specs.Prelude.{◌≡◌, ◌<◌, IfSome};
+ghost use Rattle.std.specs.Prelude.{◌≡◌, ◌<◌, ◌≤◌, IfSome};
 ghost use Rattle.mill_model.specs.Limits.{IsPrice};
 
 use crate::mill::{THREE_ORDERS, charges_to_four, ranked_of};
@@ -9,13 +9,20 @@ use slab_rules::OpenSlab;
 use std::alloc::Global;
 use std::test::Fail;
 
-/// The least slack of a new slab under a price of the first order in rank and none of the others,
-/// where one of them may be forced.
-fn on_a_new_slab(alloc: Global, first: i64, forced: Option<u16>) -> Result<Option<i64>, OutOfMemory>
+/// The least slack of a new slab with at most `p` colours, under a price of the first order in rank
+/// and none of the others, where one of them may be forced.
+fn on_a_new_slab(
+    alloc: Global,
+    p: u8,
+    first: i64,
+    forced: Option<u16>,
+) -> Result<Option<i64>, OutOfMemory>
+    requires low { 1 ≤ p }
+    requires high { p ≤ 8 }
     requires price { IsPrice first }
     requires rank { IfSome forced (λ rank. rank < 3) }
 {
-    let ranked = ranked_of(alloc, &THREE_ORDERS, 2)?;
+    let ranked = ranked_of(alloc, &THREE_ORDERS, p)?;
     let charges = charges_to_four(alloc)?;
     let prices = Prices::from_list(vec![in alloc; first, 0, 0]?);
     if ranked.len() != 3 || ranked.largest() != 4 {
@@ -27,8 +34,9 @@ fn on_a_new_slab(alloc: Global, first: i64, forced: Option<u16>) -> Result<Optio
 #[test]
 fn new_slabs(rt: HostRuntime) -> Result<(), Fail> {
     let alloc = rt.alloc();
-    assert_eq!(rt; on_a_new_slab(alloc, 0, None)?, Some(60));
-    assert_eq!(rt; on_a_new_slab(alloc, 60, Some(2))?, Some(0));
+    assert_eq!(rt; on_a_new_slab(alloc, 2, 0, None)?, Some(60));
+    assert_eq!(rt; on_a_new_slab(alloc, 2, 60, Some(2))?, Some(0));
+    assert_eq!(rt; on_a_new_slab(alloc, 8, 60, None)?, Some(-60));
     Ok(())
 }
 

@@ -37,6 +37,21 @@ fn ascents_at_the_root(rt: HostRuntime) -> Result<(), Fail> {
     assert!(rt; is_ascent(alloc, &two, &[60, 180], 240)?);
     let three = ranked_of(alloc, &THREE_ORDERS, 2)?;
     assert!(rt; is_ascent(alloc, &three, &[60, 0, 0], 60)?);
+    let eight_colours = ranked_of(alloc, &[(2, 3), (1, 1)], 8)?;
+    assert!(rt; is_ascent(alloc, &eight_colours, &[60, 0], 60)?);
+    Ok(())
+}
+
+// Each slab holds one of the orders, and loses 1.
+#[test]
+fn as_many_orders_as_there_may_be(rt: HostRuntime) -> Result<(), Fail> {
+    let alloc = rt.alloc();
+    let orders = vec![in alloc; (3u32, 1u16); 1024]?;
+    let expected = vec![in alloc; 60i64; 1024]?;
+    let two_colours = ranked_of(alloc, &orders, 2)?;
+    assert!(rt; is_ascent(alloc, &two_colours, &expected, 61_440)?);
+    let eight_colours = ranked_of(alloc, &orders, 8)?;
+    assert!(rt; is_ascent(alloc, &eight_colours, &expected, 61_440)?);
     Ok(())
 }
 

@@ -1,6 +1,7 @@
 -- The chains of a plan, made from its last order to its first.
 use Rattle.std.proofs.Common.{ℕ, zero, suc, ◌+◌, ◌-◌, ◌<◌, ◌≤◌, ◌≡◌, ◌⊎◌, Bool, true, false, cond}
-use Rattle.std.proofs.Common.{List, [], ◌∷◌, length, get_or, set, drop, eqb, replicate, Option, Some}
+use Rattle.std.proofs.Common.{List, [], ◌∷◌, length, get_or, set, drop, eqb, replicate, Option}
+use Rattle.std.proofs.Common.{Some}
 use Rattle.std.proofs.Common.{None, refl, sym, ap, ◌∙◌, arith, subst, inl, inr, eqb-true, ne_eqb}
 use Rattle.std.proofs.Common.{eq-eqb}
 use Rattle.std.proofs.Math.Seq.{drop-cons}
@@ -19,9 +20,10 @@ use Rattle.index_links.proofs.Moved.{look-set, look-set_at, length-set_at}
 use Rattle.index_links.proofs.Relinked.{chains-with}
 use Rattle.index_links.proofs.Views.{get_or-below}
 
--- The places of the numbers of a kind.
+-- the places of the numbers of a kind
 
-pub places-low : (kind : ℕ → Bool) (k : ℕ) (plan : List ℕ) (z : ℕ) → holds z (places_where kind k plan) ≡ true → k ≤ z
+pub places-low : (kind : ℕ → Bool) (k : ℕ) (plan : List ℕ) (z : ℕ) →
+    holds z (places_where kind k plan) ≡ true → k ≤ z
 places-low kind k [] z h = absurd (cc)
 places-low kind k (t ∷ plan) z h = elim (either (kind t)) [
   | inl e ↦ elim (or-cases (eqb z k) (holds z (places_where kind (suc k) plan)) (rw e at h)) [
@@ -31,8 +33,8 @@ places-low kind k (t ∷ plan) z h = elim (either (kind t)) [
   | inr f ↦ omega (arith, places-low kind (suc k) plan z (rw f at h))
 ]
 
-pub places-high : (kind : ℕ → Bool) (k : ℕ) (plan : List ℕ) (z : ℕ) → holds z (places_where kind k plan) ≡ true →
-    z < k + length plan
+pub places-high : (kind : ℕ → Bool) (k : ℕ) (plan : List ℕ) (z : ℕ) →
+    holds z (places_where kind k plan) ≡ true → z < k + length plan
 places-high kind k [] z h = absurd (cc)
 places-high kind k (t ∷ plan) z h = elim (either (kind t)) [
   | inl e ↦ elim (or-cases (eqb z k) (holds z (places_where kind (suc k) plan)) (rw e at h)) [
@@ -42,7 +44,8 @@ places-high kind k (t ∷ plan) z h = elim (either (kind t)) [
   | inr f ↦ omega (arith, places-high kind (suc k) plan z (rw f at h))
 ]
 
-lacks : (kind : ℕ → Bool) (k : ℕ) (plan : List ℕ) (z : ℕ) → z < k → holds z (places_where kind k plan) ≡ false
+lacks : (kind : ℕ → Bool) (k : ℕ) (plan : List ℕ) (z : ℕ) → z < k →
+    holds z (places_where kind k plan) ≡ false
 lacks kind k plan z l = elim (either (holds z (places_where kind k plan))) [
   | inl t ↦ absurd (omega (arith, places-low kind k plan z t))
   | inr f ↦ f

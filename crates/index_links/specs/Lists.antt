@@ -1,5 +1,6 @@
 -- The orders of a plan, as a list for each slab.
-use Rattle.std.specs.Prelude.{ℕ, suc, ◌<◌, ◌≤◌, ◌≡◌, Bool, true, false, cond, List, [], ◌∷◌, map, length}
+use Rattle.std.specs.Prelude.{ℕ, suc, ◌<◌, ◌≤◌, ◌≡◌, Bool, true, false, cond, List, [], ◌∷◌, map}
+use Rattle.std.specs.Prelude.{length}
 use Rattle.std.specs.Prelude.{eqb, slice_index_or, slice_set, slice_get, Option, None}
 use Rattle.list_laws.specs.Sets.{holds, below}
 use Rattle.list_laws.specs.Without.{without}

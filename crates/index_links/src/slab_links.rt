@@ -79,7 +79,8 @@ impl SlabLinks {
         self.chains.nexts[order as usize]
     }
 
-    /// Writes the list of a slab into `places`, from place `from` on, and gives the place behind it.
+    /// Writes the list of a slab into `places`, from place `from` on, and gives the place behind
+    /// it.
     pub fn write_list(&self, slab: u16, places: &mut [u16], from: usize) -> usize
         requires slab { slab < length self.now }
         requires room { from + length (list_at self.now slab) ≤ length places.old }

@@ -14,7 +14,8 @@ use Rattle.large_moves.proofs.Betters.{plan-length, legal-load}
 use Rattle.large_moves.proofs.Loads.{used-load}
 
 module _ (held : Laid) (lists : List (List ℕ)) (loads : List ℕ) (room : Room)
-    (marks : List Bool) (mover : IsMover held lists loads room marks) (s : ℕ) (s_in : s < length held.orders) where
+    (marks : List Bool) (mover : IsMover held lists loads room marks) (s : ℕ)
+    (s_in : s < length held.orders) where
   -- a slab is used where it has a load
   pub held-used : holds s held.plan ≡ ltb 0 (get_or loads s 0)
   held-used =

@@ -29,8 +29,8 @@ marked-more (suc i) (true ∷ marks) (o ∷ orders) d h k =
 marked-more (suc i) (false ∷ marks) (o ∷ orders) d h k =
     marked-more i marks orders d (omega arith) (omega arith)
 
-pub unmarked-more : (i : ℕ) (marks : List Bool) (orders : List Order) (d : Order) → i < length marks →
-    i < length orders →
+pub unmarked-more : (i : ℕ) (marks : List Bool) (orders : List Order) (d : Order) →
+    i < length marks → i < length orders →
     load (chosen (complement (take (suc i) marks)) (take (suc i) orders))
     ≡ load (chosen (complement (take i marks)) (take i orders))
     + cond (get_or marks i false) 0 (get_or orders i d).weight

@@ -189,7 +189,8 @@ fn resplit(
         loss (charge_of orders.now.charges.now) (plan_of links.new) orders.now.list.now
         < loss (charge_of orders.now.charges.now) (plan_of links.old) orders.now.list.now) }
     ensures second { IfSome result (λ c. c < length orders.now.list.now) }
-    ensures stay { IfSome result (λ c. StayElsewhere pair.first c (plan_of links.old) (plan_of links.new)) }
+    ensures stay { IfSome result (λ c.
+        StayElsewhere pair.first c (plan_of links.old) (plan_of links.new)) }
     ensures legal { IsLegalPlan splitter.old orders.now.list.now (plan_of links.new) }
     ensures lists { AreSlabLists links.new }
     ensures count { length links.new ≡ length links.old }
@@ -241,7 +242,8 @@ pub fn try_split(
         loss (charge_of orders.now.charges.now) (plan_of links.new) orders.now.list.now
         < loss (charge_of orders.now.charges.now) (plan_of links.old) orders.now.list.now) }
     ensures second { IfSome result (λ c. c < length orders.now.list.now) }
-    ensures stay { IfSome result (λ c. StayElsewhere pair.first c (plan_of links.old) (plan_of links.new)) }
+    ensures stay { IfSome result (λ c.
+        StayElsewhere pair.first c (plan_of links.old) (plan_of links.new)) }
     ensures legal { IsLegalPlan splitter.old orders.now.list.now (plan_of links.new) }
     ensures places { length room.new.places.items ≡ length room.old.places.items }
     ensures items { length room.new.items.items ≡ length room.old.items.items }

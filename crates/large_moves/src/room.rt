@@ -3,7 +3,8 @@ ghost use Rattle.std.specs.Prelude.{◌≡◌, length, IfOk};
 use mill_model::{Order, OutOfMemory};
 use std::alloc::Global;
 
-/// Room for the orders of a pair of slabs: for their places among all, and for the orders themselves.
+/// Room for the orders of a pair of slabs: for their places among all, and for the orders
+/// themselves.
 #[derive(Debug, Drop)]
 pub struct Room {
     pub places: Vec<u16>,

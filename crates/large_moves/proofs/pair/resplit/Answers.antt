@@ -1,5 +1,6 @@
 -- The pair as it was, and the split that was found for it.
-use Rattle.std.proofs.Common.{ℕ, ◌≡◌, ◌<◌, ◌≤◌, ◌∙◌, Bool, true, List, All, length, sym, subst, ap, arith}
+use Rattle.std.proofs.Common.{ℕ, ◌≡◌, ◌<◌, ◌≤◌, ◌∙◌, Bool, true, List, All, length, sym, subst, ap}
+use Rattle.std.proofs.Common.{arith}
 use Rattle.mill_model.specs.Charges.{charge_of}
 use Rattle.mill_model.specs.Pairs.{complement, one_of, pair_orders}
 use Rattle.std.proofs.lemmas.List.{length-map}
@@ -21,8 +22,8 @@ use Rattle.large_moves.proofs.pair.resplit.Goals.{After-lay}
 
 pub better_split-requires-clause-few : goal.better_split-requires-clause-few
 better_split-requires-clause-few c =
-    let few : length (pair_orders c.args.orders.now.list.now (plan_of c.args.links.now) c.args.pair.first
-    c.args.pair.second)
+    let few : length (pair_orders c.args.orders.now.list.now (plan_of c.args.links.now)
+    c.args.pair.first c.args.pair.second)
     ≤ length c.args.orders.now.list.now = chosen-length _ c.args.orders.now.list.now in
     subst (λ xs. length xs ≤ 1024) (sym c.requires.items) (omega (arith, few, c.requires.few))
 
@@ -40,14 +41,14 @@ pub returns-in_default-second_slab-clause-closed :
     goal.returns-in_default-second_slab-clause-closed
 returns-in_default-second_slab-clause-closed c =
     let better = better-split c.args.splitter.now (charge_of c.args.orders.now.charges.now)
-    c.args.orders.now.list.now (plan_of c.args.links.now) c.args.pair.first c.args.pair.second c.args.pair.loss
-    c.in-Some.field-0
+    c.args.orders.now.list.now (plan_of c.args.links.now)
+    c.args.pair.first c.args.pair.second c.args.pair.loss c.in-Some.field-0
     c.args.gathered.now.items.now c.better_split.new.marks c.requires.items c.in-Some.ensures.split
     c.in-Some.ensures.less in
     let none = c.in_default-second_slab.ensures.none in
     absurd (second-exists c.args.splitter.now (charge_of c.args.orders.now.charges.now)
-    c.args.orders.now.charges.now.free c.args.orders.now.list.now (plan_of c.args.links.now) c.args.pair.first
-    c.args.pair.second c.args.pair.loss
+    c.args.orders.now.charges.now.free c.args.orders.now.list.now (plan_of c.args.links.now)
+    c.args.pair.first c.args.pair.second c.args.pair.loss
     c.requires.second c.requires.legal c.requires.loss c.better_split.new.marks better none.0
     none.1)
 
@@ -103,8 +104,8 @@ better : (c : After-lay) → IsBetter c.args.splitter.now
     (plan_of c.lay.new.links)
 better c =
     let split = better-split c.args.splitter.now (charge_of c.args.orders.now.charges.now)
-    c.args.orders.now.list.now (plan_of c.args.links.now) c.args.pair.first c.args.pair.second c.args.pair.loss
-    c.in-Some.field-0
+    c.args.orders.now.list.now (plan_of c.args.links.now)
+    c.args.pair.first c.args.pair.second c.args.pair.loss c.in-Some.field-0
     c.args.gathered.now.items.now c.better_split.new.marks c.requires.items c.in-Some.ensures.split
     c.in-Some.ensures.less in
     subst (λ new. IsBetter c.args.splitter.now (charge_of c.args.orders.now.charges.now)
@@ -119,10 +120,11 @@ better c =
 stay : (c : After-lay) → StayElsewhere c.args.pair.first c.in-Some-second_slab.c
     (plan_of c.args.links.now)
     (plan_of c.lay.new.links)
-stay c = subst (λ new. StayElsewhere c.args.pair.first c.in-Some-second_slab.c (plan_of c.args.links.now) new)
-    (sym (new-plan c))
-    (others-stay (plan_of c.args.links.now) c.better_split.new.marks c.args.pair.first c.args.pair.second
-    c.in-Some-second_slab.c c.requires.rise c.in-Some-second_slab.ensures.some)
+stay c = subst (λ new. StayElsewhere c.args.pair.first c.in-Some-second_slab.c
+    (plan_of c.args.links.now) new) (sym (new-plan c))
+    (others-stay (plan_of c.args.links.now) c.better_split.new.marks
+    c.args.pair.first c.args.pair.second c.in-Some-second_slab.c c.requires.rise
+    c.in-Some-second_slab.ensures.some)
 
 pub returns-clause-second : goal.returns-clause-second
 returns-clause-second c =

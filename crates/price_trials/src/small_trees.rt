@@ -107,7 +107,8 @@ fn children_of(alloc: Global, ranked: &Ranked, paths: &[Path]) -> Result<Vec<Pat
     Ok(children)
 }
 
-/// Whether prices and worths are exact at all nodes of the tree of these orders.
+/// Whether prices and worths are exact at all nodes of the tree of these orders, and there is a node
+/// at each depth.
 fn is_tree_exact(
     alloc: Global,
     orders: &[(u32, u16)],
@@ -122,6 +123,9 @@ fn is_tree_exact(
     let mut paths = Vec::new(alloc);
     paths.push(Path::root(alloc))?;
     for _depth in 0..=orders.len() {
+        if paths.is_empty() {
+            return Ok(false);
+        }
         for path in &paths {
             if !is_exact(alloc, &ranked, path.numbers(), charging)? {
                 return Ok(false);

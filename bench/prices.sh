@@ -2,9 +2,9 @@
 # Times prices at a node against a plain knapsack over all orders.
 #
 # Each row: the number of orders, the largest size, the most colours of a slab, the depth of the
-# node on the first-fit path, the groups there; then in microseconds: the ascent, the ascent with one
-# sweep and what the prices are worth then, and the plain knapsack; and the ratios of the first two
-# to the last. All are timed in one run of one program, each as the least of as many as half a
+# node on the first-fit path, the groups there; then in microseconds: the ascent, the ascent with
+# one sweep and what the prices are worth then, and the plain knapsack; and the ratios of the first
+# two to the last. All are timed in one run of one program, each as the least of as many as half a
 # second has room for, and of two at least. With 1,024 orders and size 20,000 only slabs of one and
 # two colours are timed.
 # The last row, which begins with `walk`, has a number of nodes and the mean of ascent with sweep

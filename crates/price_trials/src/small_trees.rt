@@ -156,13 +156,13 @@ const LOSS_THEN_SLABS_OF_FOUR: Charging = Charging { times: 5, more: 1 };
 
 const LOSS_THEN_SLABS_OF_FIVE: Charging = Charging { times: 6, more: 1 };
 
-// 400 trees, in each of which a path of five nodes leads to a leaf.
+// 1,200 trees, in each of which a path of five nodes leads to a leaf.
 #[test]
 fn trees_of_four_orders(rt: HostRuntime) -> Result<(), Fail> {
     let alloc = rt.alloc();
-    for i in 0u16..400 {
-        // 16 shares no factor with 9, so that each digit takes all of its values.
-        let orders = orders_of(16 * i);
+    for i in 0u16..1200 {
+        // 49 shares no factor with 9, so that each digit takes all of its values.
+        let orders = orders_of(49 * i);
         let p = 1 + (i % 4) as u8;
         let charging = if i / 4 % 2 == 0 {
             LOSS

@@ -107,7 +107,8 @@ fn children_of(alloc: Global, ranked: &Ranked, paths: &[Path]) -> Result<Vec<Pat
     Ok(children)
 }
 
-/// Whether prices and worths are exact at all nodes of the tree of these orders.
+/// Whether prices and worths are exact at all nodes of the tree of these orders, and there is a node
+/// at each depth.
 fn is_tree_exact(
     alloc: Global,
     orders: &[(u32, u16)],
@@ -122,6 +123,9 @@ fn is_tree_exact(
     let mut paths = Vec::new(alloc);
     paths.push(Path::root(alloc))?;
     for _depth in 0..=orders.len() {
+        if paths.is_empty() {
+            return Ok(false);
+        }
         for path in &paths {
             if !is_exact(alloc, &ranked, path.numbers(), charging)? {
                 return Ok(false);
@@ -152,13 +156,13 @@ const LOSS_THEN_SLABS_OF_FOUR: Charging = Charging { times: 5, more: 1 };
 
 const LOSS_THEN_SLABS_OF_FIVE: Charging = Charging { times: 6, more: 1 };
 
-// 400 trees, in each of which a path of five nodes leads to a leaf.
+// 1,200 trees, in each of which a path of five nodes leads to a leaf.
 #[test]
 fn trees_of_four_orders(rt: HostRuntime) -> Result<(), Fail> {
     let alloc = rt.alloc();
-    for i in 0u16..400 {
-        // 16 shares no factor with 9, so that each digit takes all of its values.
-        let orders = orders_of(16 * i);
+    for i in 0u16..1200 {
+        // 49 shares no factor with 9, so that each digit takes all of its values.
+        let orders = orders_of(49 * i);
         let p = 1 + (i % 4) as u8;
         let charging = if i / 4 % 2 == 0 {
             LOSS

@@ -107,8 +107,8 @@ fn children_of(alloc: Global, ranked: &Ranked, paths: &[Path]) -> Result<Vec<Pat
     Ok(children)
 }
 
-/// Whether prices and worths are exact at all nodes of the tree of these orders, and there is a node
-/// at each depth.
+/// Whether prices and worths are exact at all nodes of the tree of these orders, and there is a
+/// node at each depth.
 fn is_tree_exact(
     alloc: Global,
     orders: &[(u32, u16)],

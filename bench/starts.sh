@@ -4,8 +4,8 @@
 #
 # First the instances of the generator of `drill` with 40 to 1024 orders, a row for each: the orders,
 # the seed, the loss of the first-fit plan, of the better greedy plan, after the moves, and after
-# the walk with the moves behind it; the milliseconds of first fit, of the moves and of the walk; and
-# the time of moves and walk over that of first fit.
+# the walk with the moves behind it; the milliseconds of first fit, of the moves, and of the
+# walk with the moves behind it; and the time of both together over that of first fit.
 #
 # Then families with few sizes, ten instances of 111 orders each, weights up to 22 and 20 colours, a
 # row for each family: its sizes; the means of the losses in the same columns, with the least and the

@@ -166,6 +166,17 @@ impl Small {
         least
     }
 
+    /// The least slack of a new slab with something in it.
+    pub fn least_new(&self, prices: &[i64]) -> Option<i64> {
+        let mut least = None;
+        for i in 0..5 {
+            if self.rest.get(i as usize).is_some() {
+                least = lesser(least, self.least(EMPTY, prices, Sets::With(i)));
+            }
+        }
+        least
+    }
+
     /// The ascent's prices.
     pub fn ascent(&self, alloc: Global) -> Result<Vec<i64>, OutOfMemory> {
         let zeros = vec![in alloc; 0i64; self.rest.len()]?;

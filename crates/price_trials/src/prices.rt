@@ -78,9 +78,10 @@ fn last_priced(
     Ok(Some([before, swept.list()[0], after]))
 }
 
-const LAST_PRICES: [(&[u16], i64, Option<[i64; 3]>); 5] = [
+const LAST_PRICES: [(&[u16], i64, Option<[i64; 3]>); 6] = [
     (&[0, 1], 0, Some([180, -60, 240])),
     (&[0, 0], 180, Some([240, 180, 240])),
+    (&[0, 0], 179, Some([239, 180, 240])),
     (&[0, 0], 121, Some([181, 180, 240])),
     (&[0, 0], 120, Some([180, 180, 240])),
     (&[0, 0], 181, None),

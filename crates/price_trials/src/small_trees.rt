@@ -8,6 +8,7 @@ ghost use Rattle.mill_model.specs.declared.order.TheConstants.{MAX_ORDERS};
 use crate::all_sets::{Charging, Small};
 use crate::mill::{all_fit, node_at, ranked_of};
 use column_price::{NodePrices, worth};
+use knap_bound::least_new;
 use mill_model::{Charges, OutOfMemory, Path, Prices};
 use order_symmetry::Ranked;
 use split_tree::NodeState;
@@ -59,17 +60,22 @@ fn are_least_prices_exact(
     Ok(given && swept && priced.into_prices().list() == prices.as_slice())
 }
 
-/// Whether the greatest prices there are aren't valid, but for no order.
+/// Whether the least slack of a new slab under the greatest prices there are is that over all sets,
+/// and these prices aren't valid, but for no order.
 fn are_greatest_prices_refused(
     alloc: Global,
     node: &NodeState,
     charges: &Charges,
+    small: &Small,
 ) -> Result<bool, OutOfMemory>
     requires reach { Reaches charges.now node.now.ranked.mill }
 {
     let later = usize::from(node.ranked().len() - node.depth());
     let greatest = Prices::from_list(vec![in alloc; 20_000_000_000; later]?);
-    Ok(later == 0 || worth(alloc, node, charges, &greatest)?.is_none())
+    let ranked = node.ranked();
+    let found = least_new(alloc, ranked, charges, node.depth(), &greatest, None)?;
+    let refused = worth(alloc, node, charges, &greatest)?.is_none();
+    Ok(found == small.least_new(greatest.list()) && (later == 0 || refused))
 }
 
 /// Whether prices and worths at the node that these numbers lead to are what they are over all
@@ -89,7 +95,7 @@ fn is_exact(
     Ok(
         is_ascent_exact(alloc, &node, &charges, &small)?
             && are_least_prices_exact(alloc, &node, &charges, &small)?
-            && are_greatest_prices_refused(alloc, &node, &charges)?,
+            && are_greatest_prices_refused(alloc, &node, &charges, &small)?,
     )
 }
 

@@ -1,0 +1,5 @@
+pub mod Deciding
+pub mod Lasts
+pub mod Fitting
+pub mod Lengths
+pub mod Closing

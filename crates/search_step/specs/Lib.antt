@@ -1,0 +1,5 @@
+pub mod Parts
+pub mod Serving
+pub mod Moves
+pub mod Steps
+pub mod Decided

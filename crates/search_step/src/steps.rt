@@ -1,0 +1,172 @@
+ghost use Rattle.std.specs.Prelude.{◌≡◌, ◌≢◌, ◌≤◌, ◌<◌, true};
+ghost use Rattle.search_step.specs.Serving.{Serves};
+ghost use Rattle.search_step.specs.Steps.{FitsMill, IsSafe, MayStep, Steps};
+
+use crate::hand::Hand;
+use crate::parts::{Phase, Turn};
+use crate::setting::Setting;
+use crate::work::Work;
+use mill_model::{Draw, Standing};
+
+impl Work {
+    /// One step: at most one call on the hand.
+    pub(crate) fn step<H: Hand>(&mut self, setting: &Setting, hand: &mut H) -> Turn
+        requires among { setting.now.number < setting.now.workers }
+        requires few { setting.now.workers ≤ 64 }
+        requires fits { FitsMill setting.now.ranked.now setting.now.charges.now }
+        requires serves { Serves (H.serves hand.old) setting.now.ranked.now setting.now.workers
+            setting.now.number }
+        requires may { MayStep self.old.phase (H.may_draw hand.old) }
+        requires safe { IsSafe setting.now.ranked.now setting.now.charges.now setting.now.workers
+            setting.now.number self.old }
+        ensures step { Steps H.did setting.now.ranked.now setting.now.charges.now
+            setting.now.workers setting.now.number self.old hand.old result self.new hand.new }
+        ensures serves { Serves (H.serves hand.new) setting.now.ranked.now setting.now.workers
+            setting.now.number }
+        ensures may { MayStep self.new.phase (H.may_draw hand.new) }
+    {
+        match self.phase() {
+            Phase::Resting => self.rest(setting, hand),
+            Phase::Taking => self.take(setting, hand),
+            Phase::Stealing => self.steal(setting, hand),
+            Phase::Holding => self.draw(setting, hand),
+            Phase::Halting => self.halt(setting, hand),
+            Phase::Ended => Turn::Stopped,
+            Phase::Bounding => self.look(setting, hand),
+            Phase::Closing => self.close(setting),
+            Phase::Publishing => self.publish(setting, hand),
+            Phase::Pushing => self.push(hand),
+        }
+    }
+
+    fn rest<H: Hand>(&mut self, setting: &Setting, hand: &mut H) -> Turn
+        requires phase { self.old.phase ≡ Phase.Resting }
+        ensures step { Steps H.did setting.now.ranked.now setting.now.charges.now
+            setting.now.workers setting.now.number self.old hand.old result self.new hand.new }
+        ensures serves { H.serves hand.new ≡ H.serves hand.old }
+        ensures may { H.may_draw hand.new ≡ H.may_draw hand.old }
+    {
+        let _workers = setting.workers;
+        match hand.standing() {
+            Standing::Going => {
+                self.go(Phase::Taking);
+                Turn::Moved
+            }
+            Standing::Halted | Standing::Drained => Turn::Stopped,
+        }
+    }
+
+    fn take<H: Hand>(&mut self, setting: &Setting, hand: &mut H) -> Turn
+        requires phase { self.old.phase ≡ Phase.Taking }
+        requires serves { Serves (H.serves hand.old) setting.now.ranked.now setting.now.workers
+            setting.now.number }
+        ensures step { Steps H.did setting.now.ranked.now setting.now.charges.now
+            setting.now.workers setting.now.number self.old hand.old result self.new hand.new }
+        ensures serves { H.serves hand.new ≡ H.serves hand.old }
+        ensures may { H.may_draw hand.new ≡ H.may_draw hand.old }
+    {
+        let _workers = setting.workers;
+        match hand.take() {
+            Some(path) => {
+                self.hold(path);
+                Turn::Moved
+            }
+            None => {
+                self.go(if setting.workers > 1 {
+                    Phase::Stealing
+                } else {
+                    Phase::Resting
+                });
+                Turn::Idle
+            }
+        }
+    }
+
+    fn steal<H: Hand>(&mut self, setting: &Setting, hand: &mut H) -> Turn
+        requires among { setting.now.number < setting.now.workers }
+        requires few { setting.now.workers ≤ 64 }
+        requires phase { self.old.phase ≡ Phase.Stealing }
+        requires serves { Serves (H.serves hand.old) setting.now.ranked.now setting.now.workers
+            setting.now.number }
+        requires within { self.old.victim < setting.now.workers }
+        requires other { self.old.victim ≢ setting.now.number }
+        ensures step { Steps H.did setting.now.ranked.now setting.now.charges.now
+            setting.now.workers setting.now.number self.old hand.old result self.new hand.new }
+        ensures serves { H.serves hand.new ≡ H.serves hand.old }
+        ensures may { H.may_draw hand.new ≡ H.may_draw hand.old }
+    {
+        let _workers = setting.workers;
+        let path = hand.steal(self.victim());
+        self.aim(setting.workers, setting.number);
+        match path {
+            Some(path) => {
+                self.hold(path);
+                Turn::Moved
+            }
+            None => {
+                self.go(Phase::Resting);
+                Turn::Idle
+            }
+        }
+    }
+
+    fn draw<H: Hand>(&mut self, setting: &Setting, hand: &mut H) -> Turn
+        requires phase { self.old.phase ≡ Phase.Holding }
+        requires may { H.may_draw hand.old ≡ true }
+        ensures step { Steps H.did setting.now.ranked.now setting.now.charges.now
+            setting.now.workers setting.now.number self.old hand.old result self.new hand.new }
+        ensures serves { H.serves hand.new ≡ H.serves hand.old }
+        ensures may { MayStep self.new.phase (H.may_draw hand.new) }
+    {
+        let _workers = setting.workers;
+        match hand.draw() {
+            Draw::Ticket(_) => {
+                self.go(Phase::Bounding);
+                Turn::Drew
+            }
+            Draw::Spent(_) => {
+                self.go(Phase::Halting);
+                Turn::Moved
+            }
+        }
+    }
+
+    fn halt<H: Hand>(&mut self, setting: &Setting, hand: &mut H) -> Turn
+        requires phase { self.old.phase ≡ Phase.Halting }
+        ensures step { Steps H.did setting.now.ranked.now setting.now.charges.now
+            setting.now.workers setting.now.number self.old hand.old result self.new hand.new }
+        ensures serves { H.serves hand.new ≡ H.serves hand.old }
+        ensures may { H.may_draw hand.new ≡ H.may_draw hand.old }
+    {
+        let _workers = setting.workers;
+        hand.stop();
+        self.go(Phase::Ended);
+        Turn::Stopped
+    }
+
+    fn look<H: Hand>(&mut self, setting: &Setting, hand: &mut H) -> Turn
+        requires phase { self.old.phase ≡ Phase.Bounding }
+        ensures step { Steps H.did setting.now.ranked.now setting.now.charges.now
+            setting.now.workers setting.now.number self.old hand.old result self.new hand.new }
+        ensures serves { H.serves hand.new ≡ H.serves hand.old }
+        ensures may { H.may_draw hand.new ≡ H.may_draw hand.old }
+    {
+        let _workers = setting.workers;
+        let least = hand.look();
+        self.learn(least);
+        Turn::Moved
+    }
+
+    fn publish<H: Hand>(&mut self, setting: &Setting, hand: &mut H) -> Turn
+        requires phase { self.old.phase ≡ Phase.Publishing }
+        ensures step { Steps H.did setting.now.ranked.now setting.now.charges.now
+            setting.now.workers setting.now.number self.old hand.old result self.new hand.new }
+        ensures serves { H.serves hand.new ≡ H.serves hand.old }
+        ensures may { H.may_draw hand.new ≡ H.may_draw hand.old }
+    {
+        let _workers = setting.workers;
+        let _before = hand.publish(self.known());
+        self.go(Phase::Resting);
+        Turn::Moved
+    }
+}

@@ -3,3 +3,6 @@ pub mod Lasts
 pub mod Fitting
 pub mod Lengths
 pub mod Closing
+pub mod Tally
+pub mod Branches
+pub mod Law

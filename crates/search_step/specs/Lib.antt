@@ -3,3 +3,4 @@ pub mod Serving
 pub mod Moves
 pub mod Steps
 pub mod Decided
+pub mod Accounts

@@ -1,5 +1,6 @@
 ghost use Rattle.std.specs.Prelude.{◌≡◌, ◌≢◌, ◌≤◌, ◌<◌, true};
 ghost use Rattle.search_step.specs.Serving.{Serves};
+ghost use Rattle.search_step.specs.Accounts.{Keeps};
 ghost use Rattle.search_step.specs.Steps.{FitsMill, IsSafe, MayStep, Steps};
 
 use crate::hand::Hand;
@@ -11,6 +12,26 @@ use mill_model::{Draw, Standing};
 impl Work {
     /// One step: at most one call on the hand.
     pub(crate) fn step<H: Hand>(&mut self, setting: &Setting, hand: &mut H) -> Turn
+        requires among { setting.now.number < setting.now.workers }
+        requires few { setting.now.workers ≤ 64 }
+        requires fits { FitsMill setting.now.ranked.now setting.now.charges.now }
+        requires serves { Serves (H.serves hand.old) setting.now.ranked.now setting.now.workers
+            setting.now.number }
+        requires may { MayStep self.old.phase (H.may_draw hand.old) }
+        requires safe { IsSafe setting.now.ranked.now setting.now.charges.now setting.now.workers
+            setting.now.number self.old }
+        ensures step { Steps H.did setting.now.ranked.now setting.now.charges.now
+            setting.now.workers setting.now.number self.old hand.old result self.new hand.new }
+        ensures serves { Serves (H.serves hand.new) setting.now.ranked.now setting.now.workers
+            setting.now.number }
+        ensures may { MayStep self.new.phase (H.may_draw hand.new) }
+        ensures keeps { Keeps H.did setting.now.ranked.now setting.now.charges.now
+            setting.now.workers setting.now.number self.old hand.old result self.new hand.new }
+    {
+        self.step_once(setting, hand)
+    }
+
+    fn step_once<H: Hand>(&mut self, setting: &Setting, hand: &mut H) -> Turn
         requires among { setting.now.number < setting.now.workers }
         requires few { setting.now.workers ≤ 64 }
         requires fits { FitsMill setting.now.ranked.now setting.now.charges.now }

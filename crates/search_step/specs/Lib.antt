@@ -4,3 +4,4 @@ pub mod Moves
 pub mod Steps
 pub mod Decided
 pub mod Accounts
+pub mod Worker

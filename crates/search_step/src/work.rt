@@ -1,4 +1,4 @@
-ghost use Rattle.std.specs.Prelude.{◌≡◌, ◌≢◌, ◌≤◌, ◌<◌, ◌∷◌, ◌++◌, ℕ, List, All, true, Some, None, OnOk, OnErr};
+ghost use Rattle.std.specs.Prelude.{◌≡◌, ◌≢◌, ◌≤◌, ◌<◌, ◌∷◌, ◌++◌, ℕ, List, All, true, Some, None, OnOk, OnErr, option_copied};
 ghost use Rattle.std.specs.List.{AllByRecursion};
 ghost use Rattle.refute_log.specs.Fits.{fits};
 ghost use Rattle.search_step.specs.Moves.{after, aim, and_recorded, committed, has_lengths, hold};
@@ -78,6 +78,12 @@ impl Work {
         ensures { result ≡ self.now.phase }
     {
         self.phase
+    }
+
+    pub(crate) fn held(&self) -> Option<&Path>
+        ensures { option_copied result ≡ self.now.held }
+    {
+        self.held.as_ref()
     }
 
     pub(crate) fn go(&mut self, phase: Phase)

@@ -1,7 +1,7 @@
 //! A hand over two lists of paths, one of its worker's own and one of the others', which gives the
 //! answers that a trial sets and keeps the call of a step.
-ghost use Rattle.std.specs.Prelude.{◌≡◌, true, IfSome, MatchResult};
-ghost use Rattle.search_step.specs.Serving.{IsPathOf, draw_at, number_of};
+ghost use Rattle.std.specs.Prelude.{◌≡◌, true};
+ghost use Rattle.search_step.specs.Serving.{IsPathOf};
 
 use mill_model::{Draw, Path, Standing};
 use order_symmetry::Ranked;

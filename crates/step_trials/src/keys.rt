@@ -7,7 +7,7 @@ ghost use Rattle.order_symmetry.specs.Ranked.{orders_of};
 
 use crate::mill::{THREE_ORDERS, charges_to_four, ranked_of};
 use crate::readings::Reading;
-use mill_model::{Charges, Order, OutOfMemory, Path};
+use mill_model::{Charges, OutOfMemory, Path};
 use order_symmetry::Ranked;
 use split_tree::{LiveKey, NodeState};
 use std::alloc::Global;

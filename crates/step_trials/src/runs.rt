@@ -40,8 +40,8 @@ fn run_to_end(worker: &mut Worker, hand: &mut TrialHand, least: u64, refuses: bo
     refused
 }
 
-/// The records of a run that knows the loss 4: the third path by the ascent, the last one only after
-/// a sweep.
+/// The records of a run that knows the loss 4: the third path is closed by the ascent, the last one
+/// only after a sweep.
 const FOUR_RECORDS: [(&[u16], Wanted); 4] = [
     (&[], Wanted::Split),
     (&[0], Wanted::Split),

@@ -6,3 +6,5 @@ pub mod Closing
 pub mod Tally
 pub mod Branches
 pub mod Law
+pub mod Soundness
+pub mod Honesty

@@ -5,3 +5,4 @@ pub mod Steps
 pub mod Decided
 pub mod Accounts
 pub mod Worker
+pub mod Honest

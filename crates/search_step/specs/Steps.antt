@@ -7,7 +7,7 @@ use Rattle.mill_model.specs.Rank.{rank}
 use Rattle.mill_model.specs.declared.order.Order.{Order}
 use Rattle.mill_model.specs.declared.limits.Draw.{Draw}
 use Rattle.mill_model.specs.declared.limits.Standing.{Standing}
-use Rattle.order_symmetry.specs.Ranked.{RankedOrders, IsPlanOf, orders_of}
+use Rattle.order_symmetry.specs.Ranked.{RankedOrders, IsRanked, IsPlanOf, orders_of}
 use Rattle.split_tree.specs.Keys.{Key, IsLiveKey}
 use Rattle.nogood_store.specs.declared.store.Entry.{Entry as Noted}
 use Rattle.search_step.specs.Parts.{Parts}
@@ -71,8 +71,10 @@ abbrev pub task_at : RankedOrders → ChargeTable → Task
 task_at ranked charges =
     record { mill = ranked.mill; charge = charge_of charges; ranked = orders_of ranked }
 
--- no order is heavier than the largest size, and each load up to it has a charge
+-- the orders are those of an instance, none is heavier than the largest size, and each load up to
+-- that has a charge
 pub record FitsMill (ranked : RankedOrders) (charges : ChargeTable) : Type 0 where
+  pub of_instance : IsRanked ranked
   pub light : All (λ order. order.weight ≤ ranked.mill.largest) (orders_of ranked)
   pub reach : Reaches charges ranked.mill
 

@@ -1,6 +1,7 @@
 ghost use Rattle.std.specs.Prelude.{◌≡◌, ◌≢◌, ◌≤◌, ◌<◌, true};
 ghost use Rattle.search_step.specs.Serving.{Serves};
 ghost use Rattle.search_step.specs.Accounts.{Keeps};
+ghost use Rattle.search_step.specs.Honest.{KeepsHonest};
 ghost use Rattle.search_step.specs.Steps.{FitsMill, IsSafe, MayStep, Steps};
 
 use crate::hand::Hand;
@@ -27,6 +28,8 @@ impl Work {
         ensures may { MayStep self.new.phase (H.may_draw hand.new) }
         ensures keeps { Keeps H.did setting.now.ranked.now setting.now.charges.now
             setting.now.workers setting.now.number self.old hand.old result self.new hand.new }
+        ensures honest { KeepsHonest setting.now.ranked.now setting.now.charges.now self.old
+            self.new }
     {
         self.step_once(setting, hand)
     }

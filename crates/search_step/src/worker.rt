@@ -2,6 +2,7 @@ ghost use Rattle.std.specs.Prelude.{◌≡◌, ◌<◌, ◌≤◌, All, length, 
 ghost use Rattle.mill_model.specs.Charges.{Reaches};
 ghost use Rattle.order_symmetry.specs.Ranked.{orders_of};
 ghost use Rattle.search_step.specs.Accounts.{Keeps};
+ghost use Rattle.search_step.specs.Honest.{IsHonest, KeepsHonest};
 ghost use Rattle.search_step.specs.Moves.{new_worker};
 ghost use Rattle.search_step.specs.Serving.{Serves};
 ghost use Rattle.search_step.specs.Steps.{MayStep, Steps};
@@ -76,6 +77,7 @@ impl<'a> Worker<'a> {
         ensures workers { result.workers ≡ workers }
         ensures parts { result.parts
             ≡ new_worker workers (length ranked.now.placed) loss number }
+        ensures honest { IsHonest ranked.now charges.now loss result.parts }
     {
         let setting = Setting {
             ranked,
@@ -96,6 +98,8 @@ impl<'a> Worker<'a> {
             self.old.number self.old.parts hand.old result self.new.parts hand.new }
         ensures keeps { Keeps H.did self.old.ranked self.old.charges self.old.workers
             self.old.number self.old.parts hand.old result self.new.parts hand.new }
+        ensures honest { KeepsHonest self.old.ranked self.old.charges self.old.parts
+            self.new.parts }
         ensures ranked { self.new.ranked ≡ self.old.ranked }
         ensures charges { self.new.charges ≡ self.old.charges }
         ensures number { self.new.number ≡ self.old.number }

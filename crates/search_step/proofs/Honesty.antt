@@ -2,7 +2,8 @@
 -- lowers the known loss, and what is sound for a loss is sound for a lesser one. A closing adds one
 -- record, which is sound, and what held of the earlier records holds beside it.
 use Rattle.std.proofs.Common.{◌≡◌, ◌<◌, ◌≤◌, ◌≢◌, ℕ, ◌+◌, min, Bool, true, false, cond, ◌&&◌, ◌||◌}
-use Rattle.std.proofs.Common.{ltb, eqb, List, [], ◌∷◌, ◌++◌, length, get_or, Option, Some, None, refl}
+use Rattle.std.proofs.Common.{ltb, eqb, List, [], ◌∷◌, ◌++◌, length, get_or, Option, Some, None}
+use Rattle.std.proofs.Common.{refl}
 use Rattle.std.proofs.Common.{sym, ap, ◌∙◌, subst, arith, le-leb, lt-ltb, ltb-true, ltb-false}
 use Rattle.std.proofs.Common.{eq-eqb, eqb-true, length-append, ◌⊎◌, inl, inr}
 use Rattle.std.specs.List.{AllByRecursion, AllPairs, list_any}
@@ -33,7 +34,8 @@ use Rattle.nogood_store.specs.Entries.{found}
 use Rattle.nogood_store.specs.declared.store.Entry.{Entry as Noted}
 use Rattle.search_step.specs.Parts.{Parts}
 use Rattle.search_step.specs.Serving.{IsPathOf}
-use Rattle.search_step.specs.Moves.{to, hold, aim, rested, took, stole, drew, looked, pushed, closed}
+use Rattle.search_step.specs.Moves.{to, hold, aim, rested, took, stole, drew, looked, pushed}
+use Rattle.search_step.specs.Moves.{closed}
 use Rattle.search_step.specs.Moves.{commits, verdict, verdict_leaf, verdict_inner, verdict_open}
 use Rattle.search_step.specs.Moves.{new_worker}
 use Rattle.search_step.specs.Moves.{found_at, first_prices, second_prices, exceeds, noted, note_of}
@@ -115,12 +117,12 @@ module _ {H : Type 0} (did : H → Event → H → Type 0) (ranked : RankedOrder
   abbrev task : Task
   task = task_at ranked charges
 
-  abbrev Hon : Parts → Type 0
-  Hon v = KeepsHonest ranked charges w v
+  abbrev StaysHonest : Parts → Type 0
+  StaysHonest v = KeepsHonest ranked charges w v
 
   -- with the same records, notes, known loss and plan
   same-honest : (phase : Phase) (held : Option (List ℕ)) (waiting : List (List ℕ)) (victim : ℕ) →
-      Hon (record w { phase = phase; held = held; waiting = waiting; victim = victim })
+      StaysHonest (record w { phase = phase; held = held; waiting = waiting; victim = victim })
   same-honest phase held waiting victim = record {
     falls = omega arith;
     keeps = λ start honest. record {
@@ -137,13 +139,13 @@ module _ {H : Type 0} (did : H → Event → H → Type 0) (ranked : RankedOrder
     };
   }
 
-  stays : Hon w
+  stays : StaysHonest w
   stays = record { falls = omega arith; keeps = λ start honest. honest }
 
-  carry : (w' v : Parts) → w' ≡ v → Hon v → Hon w'
-  carry w' v e k = subst Hon (sym e) k
+  carry : (w' v : Parts) → w' ≡ v → StaysHonest v → StaysHonest w'
+  carry w' v e k = subst StaysHonest (sym e) k
 
-  look-honest : (n : ℕ) → Hon (looked w n).0
+  look-honest : (n : ℕ) → StaysHonest (looked w n).0
   look-honest n = record {
     falls = omega arith;
     keeps = λ start honest. record {
@@ -222,7 +224,7 @@ module _ {H : Type 0} (did : H → Event → H → Type 0) (ranked : RankedOrder
         ((start : ℕ) → IsHonest ranked charges start w → names_split w.piece closing ≡ true) →
         ((start : ℕ) → IsHonest ranked charges start w → (start : Start) → best ≡ Some start →
         IsKept ranked charges start × (known ≤ start.loss)) →
-        Hon (record w {
+        StaysHonest (record w {
           phase = phase;
           held = None;
           piece = piece closing;
@@ -260,14 +262,14 @@ module _ {H : Type 0} (did : H → Event → H → Type 0) (ranked : RankedOrder
     plain-honest : (closing : Closing) → sound task w.known path closing ≡ true →
         is_split closing ≡ false →
         ((start : ℕ) → IsHonest ranked charges start w → names_split w.piece closing ≡ true) →
-        Hon (record w { phase = Resting; held = None; piece = piece closing })
+        StaysHonest (record w { phase = Resting; held = None; piece = piece closing })
     plain-honest closing s unsplit names =
         record-honest closing Resting w.known w.best (omega arith) s unsplit names
         (λ start honest best e. (honest.kept best e, honest.above best e))
 
     leaf-honest : (key : Key) (plan : List ℕ) → AreOf ranked charges w.known path key plan →
         is_leaf task path ≡ true → (better : Bool) → ltb (loss_at task path) w.known ≡ better →
-        Hon (commits path w
+        StaysHonest (commits path w
         (cond better (Better (record { plan = plan; loss = loss_at task path })) Plain))
     leaf-honest key plan are full true e =
         let less : loss_at task path < w.known = ltb-true _ _ e in
@@ -371,7 +373,7 @@ module _ {H : Type 0} (did : H → Event → H → Type 0) (ranked : RankedOrder
           exceeds task w.known path (first_prices task path) ≡ false →
           exceeds task w.known path (second_prices task path) ≡ false →
           found_at task w.store key path ≡ None →
-          Hon (commits path w
+          StaysHonest (commits path w
           (Open (children task.mill task.ranked path) (noted task key path)))
       split-honest l first second none = record {
         falls = omega arith;
@@ -406,7 +408,7 @@ module _ {H : Type 0} (did : H → Event → H → Type 0) (ranked : RankedOrder
           exceeds task w.known path (first_prices task path) ≡ false →
           exceeds task w.known path (second_prices task path) ≡ false →
           (other : Option (List ℕ)) → found_at task w.store key path ≡ other →
-          Hon (commits path w (verdict_open task key path other))
+          StaysHonest (commits path w (verdict_open task key path other))
       open-honest l first second None e = split-honest l first second e
       open-honest l first second (Some other) e =
           let f = found-other ranked charges path tree fit.of_instance key keyed w.store
@@ -424,7 +426,7 @@ module _ {H : Type 0} (did : H → Event → H → Type 0) (ranked : RankedOrder
         is_leaf task path ≡ false → (first second : Bool) →
         exceeds task w.known path (first_prices task path) ≡ first →
         exceeds task w.known path (second_prices task path) ≡ second →
-        Hon (commits path w (cond first (ByPrices (first_prices task path))
+        StaysHonest (commits path w (cond first (ByPrices (first_prices task path))
         (cond second (ByPrices (second_prices task path))
         (verdict_open task key path (found_at task w.store key path)))))
     inner-honest key plan are l true second e f =
@@ -439,24 +441,24 @@ module _ {H : Type 0} (did : H → Event → H → Type 0) (ranked : RankedOrder
         (found_at task w.store key path) refl
 
     commit-honest : (key : Key) (plan : List ℕ) → AreOf ranked charges w.known path key plan →
-        Hon (commits path w (verdict task w.known w.store key plan path))
+        StaysHonest (commits path w (verdict task w.known w.store key plan path))
     commit-honest key plan are = go (is_leaf task path) refl
       where
         go : (b : Bool) → is_leaf task path ≡ b →
-            Hon (commits path w (cond b (verdict_leaf task w.known plan path)
+            StaysHonest (commits path w (cond b (verdict_leaf task w.known plan path)
             (verdict_inner task w.known w.store key path)))
         go true e = leaf-honest key plan are e _ refl
         go false e = inner-honest key plan are e _ _ refl refl
 
   close-honest : w.phase ≡ ClosingNow → (turn : Turn) (w' : Parts) →
-      Closes ranked charges w turn w' → Hon w'
+      Closes ranked charges w turn w' → StaysHonest w'
   close-honest is turn w' k = go turn k.are k.becomes
     where
       held : (path : List ℕ) × (w.held ≡ Some path)
       held = subst (λ p. HeldIn p w.held) is safe.held_in
 
       done : (turn : Turn) → AreOf ranked charges w.known held.0 k.key k.plan →
-          Becomes w' turn (closed task k.key k.plan w w.held) → Hon w'
+          Becomes w' turn (closed task k.key k.plan w w.held) → StaysHonest w'
       done turn a b =
           let c : Becomes w' turn (closed task k.key k.plan w (Some held.0)) =
           subst (λ o. Becomes w' turn (closed task k.key k.plan w o)) held.1 b in
@@ -465,7 +467,7 @@ module _ {H : Type 0} (did : H → Event → H → Type 0) (ranked : RankedOrder
 
       go : (turn : Turn) → (turn ≢ OutOfMemory → (path : List ℕ) → w.held ≡ Some path →
           AreOf ranked charges w.known path k.key k.plan) →
-          BecomesOrStays w w' turn (closed task k.key k.plan w w.held) → Hon w'
+          BecomesOrStays w w' turn (closed task k.key k.plan w w.held) → StaysHonest w'
       go Moved a b = done Moved (a (λ q. absurd (moved-memory q)) held.0 held.1) b
         where
           moved-memory : Moved ≡ OutOfMemory → ⊥
@@ -485,7 +487,7 @@ module _ {H : Type 0} (did : H → Event → H → Type 0) (ranked : RankedOrder
       go OutOfMemory a b = carry w' w b stays
 
   push-honest : (turn : Turn) (w' : Parts) (path : Option (List ℕ)) →
-      Pushes did path w h turn w' h' → Hon w'
+      Pushes did path w h turn w' h' → StaysHonest w'
   push-honest turn w' None b =
       carry w' (to Resting w) b.1.0 (same-honest Resting w.held w.waiting w.victim)
   push-honest Moved w' (Some path) b =
@@ -497,23 +499,24 @@ module _ {H : Type 0} (did : H → Event → H → Type 0) (ranked : RankedOrder
   push-honest Stopped w' (Some path) b = absurd b
 
   honest-at : (phase : Phase) → w.phase ≡ phase → (turn : Turn) (w' : Parts) →
-      StepAt did ranked charges workers number phase w h turn w' h' → Hon w'
+      StepAt did ranked charges workers number phase w h turn w' h' → StaysHonest w'
   honest-at Resting is turn w' b = rest b.0 b.2
     where
-      rest : (standing : Standing) → Becomes w' turn (rested w standing) → Hon w'
+      rest : (standing : Standing) → Becomes w' turn (rested w standing) → StaysHonest w'
       rest Going c = carry w' (to Taking w) c.0 (same-honest Taking w.held w.waiting w.victim)
       rest Halted c = carry w' w c.0 stays
       rest Drained c = carry w' w c.0 stays
   honest-at Taking is turn w' b = take b.0 b.3
     where
-      take : (path : Option (List ℕ)) → Becomes w' turn (took workers w path) → Hon w'
+      take : (path : Option (List ℕ)) → Becomes w' turn (took workers w path) → StaysHonest w'
       take None c =
           carry w' (took workers w None).0 c.0 (same-honest _ w.held w.waiting w.victim)
       take (Some path) c =
           carry w' (hold path w) c.0 (same-honest Holding (Some path) w.waiting w.victim)
   honest-at Stealing is turn w' b = steal b.0 b.3
     where
-      steal : (path : Option (List ℕ)) → Becomes w' turn (stole workers number w path) → Hon w'
+      steal : (path : Option (List ℕ)) → Becomes w' turn (stole workers number w path) →
+          StaysHonest w'
       steal None c =
           carry w' (stole workers number w None).0 c.0 (same-honest Resting w.held w.waiting _)
       steal (Some path) c =
@@ -521,7 +524,7 @@ module _ {H : Type 0} (did : H → Event → H → Type 0) (ranked : RankedOrder
           (same-honest Holding (Some path) w.waiting _)
   honest-at Holding is turn w' b = draw b.0 b.2
     where
-      draw : (ticket : Draw) → Becomes w' turn (drew w ticket) → Hon w'
+      draw : (ticket : Draw) → Becomes w' turn (drew w ticket) → StaysHonest w'
       draw (Ticket t) c =
           carry w' (to Bounding w) c.0 (same-honest Bounding w.held w.waiting w.victim)
       draw (Spent t) c =
@@ -536,7 +539,7 @@ module _ {H : Type 0} (did : H → Event → H → Type 0) (ranked : RankedOrder
   honest-at Pushing is turn w' b = push-honest turn w' (last_of w.waiting) b
 
   pub steps-stay-honest : (turn : Turn) (w' : Parts) →
-      Steps did ranked charges workers number w h turn w' h' → Hon w'
+      Steps did ranked charges workers number w h turn w' h' → StaysHonest w'
   steps-stay-honest turn w' b = honest-at w.phase refl turn w' b
 
 -- a new worker is honest for the loss that it is given

@@ -1,6 +1,7 @@
 -- A verdict on a path of the tree has the lengths of a record.
 use Rattle.std.proofs.Common.{ℕ, ◌+◌, ◌≤◌, ◌≡◌, Bool, true, false, cond, ◌&&◌, leb, ltb, List}
-use Rattle.std.proofs.Common.{[], ◌∷◌, length, drop, Option, Some, None, refl, sym, ◌∙◌, subst, arith}
+use Rattle.std.proofs.Common.{[], ◌∷◌, length, drop, Option, Some, None, refl, sym, ◌∙◌, subst}
+use Rattle.std.proofs.Common.{arith}
 use Rattle.std.proofs.Common.{le-leb, eq-eqb, length-drop}
 use Rattle.std.proofs.lemmas.List.{length-map}
 use Rattle.std.specs.List.{AllByRecursion}
@@ -181,7 +182,8 @@ module _ (ranked : RankedOrders) (charges : ChargeTable) (path : List ℕ)
           and-both _ _ path-fits (and-both _ _ (path-fits-of other (h other refl).0)
           (eq-eqb _ _ (h other refl).1))
         where
-          path-fits-of : (p : List ℕ) → IsPathOf ranked p → path_fits (length ranked.placed) p ≡ true
+          path-fits-of : (p : List ℕ) → IsPathOf ranked p →
+              path_fits (length ranked.placed) p ≡ true
           path-fits-of p t = tree-fits-path ranked p t
 
       found-other : is_leaf (task_at ranked charges) path ≡ false →

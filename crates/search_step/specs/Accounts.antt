@@ -1,5 +1,6 @@
 -- What a step keeps: no path is lost, none comes from nowhere, and the tickets are the records.
-use Rattle.std.specs.Prelude.{ℕ, ◌+◌, ◌≡◌, List, [], ◌∷◌, ◌++◌, length, Option, Some, None, option_to_list}
+use Rattle.std.specs.Prelude.{ℕ, ◌+◌, ◌≡◌, List, [], ◌∷◌, ◌++◌, length, Option, Some, None}
+use Rattle.std.specs.Prelude.{option_to_list}
 use Rattle.list_laws.specs.Sets.{times, same_list}
 use Rattle.mill_model.specs.Log.{Task, recorded, split_children}
 use Rattle.search_step.specs.Parts.{Parts}
@@ -7,11 +8,16 @@ use Rattle.mill_model.specs.Charges.{ChargeTable}
 use Rattle.order_symmetry.specs.Ranked.{RankedOrders}
 use Rattle.search_step.specs.Steps.{IsSafe, task_at}
 use Rattle.search_step.specs.declared.event.Event.{Event}
-use Rattle.search_step.specs.declared.event.Event.TheVariants.{Took, Stole, Pushed, Refused, Drew as DrewEvent, Looked, Published, Stopping, Stood}
+use Rattle.search_step.specs.declared.event.Event.TheVariants.{Took, Stole, Pushed, Refused}
+use Rattle.search_step.specs.declared.event.Event.TheVariants.{Drew as DrewEvent, Looked, Published}
+use Rattle.search_step.specs.declared.event.Event.TheVariants.{Stopping, Stood}
 use Rattle.mill_model.specs.declared.limits.Draw.{Draw}
 use Rattle.mill_model.specs.declared.limits.Draw.TheVariants.{Ticket, Spent}
 use Rattle.search_step.specs.declared.parts.Phase.{Phase}
-use Rattle.search_step.specs.declared.parts.Phase.TheVariants.{Resting, Taking, Stealing, Holding, Halting, Ended, Bounding, Closing as ClosingNow, Publishing, Pushing}
+use Rattle.search_step.specs.declared.parts.Phase.TheVariants.{Resting, Taking, Stealing, Holding}
+use Rattle.search_step.specs.declared.parts.Phase.TheVariants.{Halting, Ended, Bounding}
+use Rattle.search_step.specs.declared.parts.Phase.TheVariants.{Closing as ClosingNow, Publishing}
+use Rattle.search_step.specs.declared.parts.Phase.TheVariants.{Pushing}
 use Rattle.search_step.specs.declared.parts.Turn.{Turn}
 use Rattle.search_step.specs.declared.parts.Turn.TheVariants.{Stopped}
 
@@ -73,9 +79,13 @@ in_work Pushing = 0
 abbrev pub own_paths : Parts → List (List ℕ)
 own_paths w = recorded w.piece ++ (option_to_list w.held ++ w.waiting)
 
--- the paths after, the children of the splits before and what went out are the paths before, the children of the splits after and what came in
+-- the paths after, the children of the splits before and what went out are the paths before, the
+-- children of the splits after and what came in
 pub record Accounts (task : Task) (w w' : Parts) (e : Option Event) : Type 0 where
-  pub paths : (x : List ℕ) → times same_list x (own_paths w') + times same_list x (split_children task w.piece) + times same_list x (went e) ≡ times same_list x (own_paths w) + times same_list x (split_children task w'.piece) + times same_list x (came e)
+  pub paths : (x : List ℕ) →
+      times same_list x (own_paths w') + times same_list x (split_children task w.piece) + times
+      same_list x (went e) ≡ times same_list x (own_paths w) + times same_list x
+      (split_children task w'.piece) + times same_list x (came e)
   pub records : length w'.piece + in_work w'.phase ≡ length w.piece + in_work w.phase + tickets e
 
 abbrev pub DidMaybe : {H : Type 0} → (H → Event → H → Type 0) → H → Option Event → H → Type 0
@@ -83,7 +93,9 @@ DidMaybe did h None h' = h' ≡ h
 DidMaybe did h (Some e) h' = did h e h'
 
 -- a step's event, with what it keeps
-pub record Keeps {H : Type 0} (did : H → Event → H → Type 0) (ranked : RankedOrders) (charges : ChargeTable) (workers number : ℕ) (w : Parts) (h : H) (turn : Turn) (w' : Parts) (h' : H) : Type 0 where
+pub record Keeps {H : Type 0} (did : H → Event → H → Type 0) (ranked : RankedOrders)
+    (charges : ChargeTable) (workers number : ℕ) (w : Parts) (h : H) (turn : Turn) (w' : Parts)
+    (h' : H) : Type 0 where
   pub event : Option Event
   pub happened : DidMaybe did h event h'
   pub accounts : Accounts (task_at ranked charges) w w' event

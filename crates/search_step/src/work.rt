@@ -1,4 +1,5 @@
-ghost use Rattle.std.specs.Prelude.{◌≡◌, ◌≢◌, ◌≤◌, ◌<◌, ◌∷◌, ◌++◌, ℕ, List, All, true, Some, None, OnOk, OnErr, option_copied};
+ghost use Rattle.std.specs.Prelude.{◌≡◌, ◌≢◌, ◌≤◌, ◌<◌, ◌∷◌, ◌++◌, ℕ, List, All, true, Some, None};
+ghost use Rattle.std.specs.Prelude.{OnOk, OnErr, option_copied};
 ghost use Rattle.std.specs.List.{AllByRecursion};
 ghost use Rattle.refute_log.specs.Fits.{fits};
 ghost use Rattle.search_step.specs.Moves.{after, aim, and_recorded, committed, has_lengths, hold};

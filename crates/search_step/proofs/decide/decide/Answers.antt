@@ -30,7 +30,8 @@ returns c =
     let depth : c.depth.result ≡ length path =
     c.depth.ensures.is ∙ ap (λ (n : Node). length n.path) c.in_ok-node.ensures in
     let inner : length path < length ranked.placed = search rules in
-    IfOk-weaker c.decide_inner.result (DecidesInner ranked charges c.args.known c.args.store.now path)
+    IfOk-weaker c.decide_inner.result
+    (DecidesInner ranked charges c.args.known c.args.store.now path)
     (Decides ranked charges c.args.known c.args.store.now path)
     (of-inner ranked charges path c.args.store.now c.args.known inner)
     (subst (λ (n : Node). IfOk c.decide_inner.result

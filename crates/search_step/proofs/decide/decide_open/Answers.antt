@@ -9,14 +9,17 @@ use Rattle.search_step.specs.Steps.{task_at}
 use Rattle.search_step.specs.declared.parts.Verdict.TheVariants.{Open}
 use Rattle.search_step.proofs.Deciding.{open-noted, open-plain}
 use Rattle.search_step.proofs.decide.decide_open.Goals as goal
-use Rattle.search_step.proofs.decide.decide_open.Goals.{then-starts_class+in_ok-key+in_default+in_ok-copy-2, else-starts_class}
+use Rattle.search_step.proofs.decide.decide_open.Goals.{}
+use Rattle.search_step.proofs.decide.decide_open.Goals.{then-starts_class+in_ok-key+in_default+in_ok-copy-2}
+use Rattle.search_step.proofs.decide.decide_open.Goals.{else-starts_class}
 
 pub returns : goal.returns
 returns c =
     let node = c.args.node.now in
     let charges = c.args.charges.now in
     let store = c.args.store.now in
-    let inside : c.in_ok-list.list.items ≡ children node.ranked.mill (orders_of node.ranked) node.path =
+    let inside : c.in_ok-list.list.items
+    ≡ children node.ranked.mill (orders_of node.ranked) node.path =
     c.in_ok-list.ensures.is in
     elim c.if-starts_class.branch [
       | then-starts_class+in_ok-key+in_default+in_ok-copy-2 w ↦ (

@@ -1,4 +1,5 @@
-use Rattle.std.proofs.Common.{rules, ◌≡◌, ◌∙◌, sym, ap, Some, None, true, List, ℕ, subst, refl, length}
+use Rattle.std.proofs.Common.{rules, ◌≡◌, ◌∙◌, sym, ap, Some, None, true, List, ℕ, subst, refl}
+use Rattle.std.proofs.Common.{length}
 use Rattle.search_step.specs.Decided.{Decides}
 use Rattle.search_step.specs.Moves.{has_lengths}
 use Rattle.search_step.specs.Parts.{Parts}
@@ -30,7 +31,8 @@ commit-requires c =
     record {
       lengths = λ path e. subst (λ (n : ℕ). has_lengths n path c.in-Ok.verdict ≡ true)
           (sym c.requires.safe.orders)
-          (subst (λ (p : List ℕ). has_lengths (length ranked.placed) p c.in-Ok.verdict ≡ true) (same c.in-Some.path path
+          (subst (λ (p : List ℕ). has_lengths (length ranked.placed) p c.in-Ok.verdict ≡ true)
+          (same c.in-Some.path path
           (sym held ∙ e)) lengths);
     }
   where

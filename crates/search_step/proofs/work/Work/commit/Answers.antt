@@ -1,6 +1,7 @@
 use Rattle.std.proofs.Common.{◌≡◌, Some, sym, refl, ap, ◌∙◌}
 use Rattle.search_step.specs.Parts.{Parts}
-use Rattle.search_step.proofs.Fitting.{lengths-here, fits-better, fits-plain, fits-split, fits-other, fits-priced}
+use Rattle.search_step.proofs.Fitting.{lengths-here, fits-better, fits-plain, fits-split}
+use Rattle.search_step.proofs.Fitting.{fits-other, fits-priced}
 use Rattle.search_step.proofs.work.Work.commit.Goals as goal
 use Rattle.search_step.proofs.work.Work.commit.Goals.{in-Some+else-eq, in_default}
 
@@ -35,7 +36,8 @@ record-requires-in-ByOther-clause-fits c path held =
     c.reserve.new.self.orders path c.args.verdict (ap (λ (w : Parts). w.held) c.self.view_is)
     (ap (λ (w : Parts). w.orders) c.self.view_is) (c.reserve.ensures.orders ∙ c.self.invariant)
     c.requires.lengths held in
-    fits-other c.reserve.new.self.orders path c.args.verdict whole c.in-ByOther.other c.in-ByOther.is
+    fits-other c.reserve.new.self.orders path c.args.verdict whole c.in-ByOther.other
+    c.in-ByOther.is
 
 pub record-requires-in-Open-clause-fits : goal.record-requires-in-Open-clause-fits
 record-requires-in-Open-clause-fits c path there =

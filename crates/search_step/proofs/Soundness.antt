@@ -1,6 +1,6 @@
--- Each record of a closing is sound, and its split is thrifty: the prices that a closing records are
--- valid, a path that the store finds has the live key of the held one and at most its dead loss,
--- and a path is split only where neither prices are worth more than 60 * (known - 1).
+-- Each record of a closing is sound, and its split is thrifty: the prices that it records are valid,
+-- a path that the store finds has the live key of the held one and at most its dead loss, and a
+-- path is split only where neither prices are worth more than 60 * (known - 1).
 use Rattle.std.proofs.Common.{◌≡◌, ◌<◌, ◌≤◌, inl, inr, ℕ, zero, suc, Bool, true, false, cond, ◌&&◌}
 use Rattle.std.proofs.Common.{◌||◌, map}
 use Rattle.std.proofs.Common.{leb, eqb, List, [], ◌∷◌, ◌++◌, length, get_or, Option, Some, None}
@@ -58,7 +58,8 @@ no-more : (known start : ℕ) (x : ℤ) → known ≤ start →
 no-more known start x l h = grind (arith, ints)
 
 -- where nothing is found, no entry has the key and at most the dead loss
-none-passes : (entries : List Noted) (key : Key) (dead : ℕ) → path_of (found entries key dead) ≡ None →
+none-passes : (entries : List Noted) (key : Key) (dead : ℕ) →
+    path_of (found entries key dead) ≡ None →
     list_any (λ note. same_key key note.key && leb note.dead dead) entries ≡ false
 none-passes [] key dead e = refl
 none-passes (x ∷ entries) key dead e =

@@ -70,7 +70,6 @@ impl Work {
         ensures serves { H.serves hand.new ≡ H.serves hand.old }
         ensures may { H.may_draw hand.new ≡ H.may_draw hand.old }
     {
-        let _workers = setting.workers;
         match hand.standing() {
             Standing::Going => {
                 self.go(Phase::Taking);
@@ -89,7 +88,6 @@ impl Work {
         ensures serves { H.serves hand.new ≡ H.serves hand.old }
         ensures may { H.may_draw hand.new ≡ H.may_draw hand.old }
     {
-        let _workers = setting.workers;
         match hand.take() {
             Some(path) => {
                 self.hold(path);
@@ -119,7 +117,6 @@ impl Work {
         ensures serves { H.serves hand.new ≡ H.serves hand.old }
         ensures may { H.may_draw hand.new ≡ H.may_draw hand.old }
     {
-        let _workers = setting.workers;
         let path = hand.steal(self.victim());
         self.aim(setting.workers, setting.number);
         match path {
@@ -142,7 +139,6 @@ impl Work {
         ensures serves { H.serves hand.new ≡ H.serves hand.old }
         ensures may { MayStep self.new.phase (H.may_draw hand.new) }
     {
-        let _workers = setting.workers;
         match hand.draw() {
             Draw::Ticket(_) => {
                 self.go(Phase::Bounding);
@@ -162,7 +158,6 @@ impl Work {
         ensures serves { H.serves hand.new ≡ H.serves hand.old }
         ensures may { H.may_draw hand.new ≡ H.may_draw hand.old }
     {
-        let _workers = setting.workers;
         hand.stop();
         self.go(Phase::Ended);
         Turn::Stopped
@@ -175,7 +170,6 @@ impl Work {
         ensures serves { H.serves hand.new ≡ H.serves hand.old }
         ensures may { H.may_draw hand.new ≡ H.may_draw hand.old }
     {
-        let _workers = setting.workers;
         let least = hand.look();
         self.learn(least);
         Turn::Moved
@@ -188,7 +182,6 @@ impl Work {
         ensures serves { H.serves hand.new ≡ H.serves hand.old }
         ensures may { H.may_draw hand.new ≡ H.may_draw hand.old }
     {
-        let _workers = setting.workers;
         let _before = hand.publish(self.known());
         self.go(Phase::Resting);
         Turn::Moved

@@ -176,7 +176,7 @@ closing_of (Better start) = Leaf
 closing_of Plain = Leaf
 closing_of (ByPrices prices) = Priced prices
 closing_of (ByOther other) = Dominated other
-closing_of (Open paths note) = Split
+closing_of (Open paths _) = Split
 
 abbrev pub entry_of : List ℕ → Verdict → Entry
 entry_of path v = record { path = path; closing = closing_of v }
@@ -236,7 +236,7 @@ has_lengths orders path (ByPrices prices) =
     path_fits orders path && eqb (length path + length prices) orders
 has_lengths orders path (ByOther other) =
     path_fits orders path && (path_fits orders other && eqb (length other) (length path))
-has_lengths orders path (Open paths note) = path_fits orders path
+has_lengths orders path (Open paths _) = path_fits orders path
 
 -- the records with one more, where there is a path
 abbrev pub and_recorded : List Entry → Option (List ℕ) → Closing → List Entry

@@ -1,4 +1,6 @@
-ghost use Rattle.std.specs.Prelude.{◌≡◌, ◌≢◌, ◌≤◌, ◌<◌, true};
+ghost use Rattle.std.specs.Prelude.{◌≡◌, ◌≢◌, ◌≤◌, ◌<◌, true, ℕ};
+ghost use Rattle.mill_model.specs.Charges.{ChargeTable};
+ghost use Rattle.order_symmetry.specs.Ranked.{RankedOrders};
 ghost use Rattle.search_step.specs.Serving.{Serves};
 ghost use Rattle.search_step.specs.Accounts.{Keeps};
 ghost use Rattle.search_step.specs.Honest.{KeepsHonest};
@@ -50,23 +52,23 @@ impl Work {
         ensures may { MayStep self.new.phase (H.may_draw hand.new) }
     {
         match self.phase() {
-            Phase::Resting => self.rest(setting, hand),
+            Phase::Resting => self.rest(hand),
             Phase::Taking => self.take(setting, hand),
             Phase::Stealing => self.steal(setting, hand),
             Phase::Holding => self.draw(setting, hand),
-            Phase::Halting => self.halt(setting, hand),
+            Phase::Halting => self.halt(hand),
             Phase::Ended => Turn::Stopped,
-            Phase::Bounding => self.look(setting, hand),
+            Phase::Bounding => self.look(hand),
             Phase::Closing => self.close(setting),
-            Phase::Publishing => self.publish(setting, hand),
+            Phase::Publishing => self.publish(hand),
             Phase::Pushing => self.push(hand),
         }
     }
 
-    fn rest<H: Hand>(&mut self, setting: &Setting, hand: &mut H) -> Turn
+    fn rest<H: Hand>(&mut self, hand: &mut H) -> Turn
         requires phase { self.old.phase ≡ Phase.Resting }
-        ensures step { Steps H.did setting.now.ranked.now setting.now.charges.now
-            setting.now.workers setting.now.number self.old hand.old result self.new hand.new }
+        ensures step { (ranked : RankedOrders) (charges : ChargeTable) (workers number : ℕ) →
+            Steps H.did ranked charges workers number self.old hand.old result self.new hand.new }
         ensures serves { H.serves hand.new ≡ H.serves hand.old }
         ensures may { H.may_draw hand.new ≡ H.may_draw hand.old }
     {
@@ -151,22 +153,23 @@ impl Work {
         }
     }
 
-    fn halt<H: Hand>(&mut self, setting: &Setting, hand: &mut H) -> Turn
+    fn halt<H: Hand>(&mut self, hand: &mut H) -> Turn
         requires phase { self.old.phase ≡ Phase.Halting }
-        ensures step { Steps H.did setting.now.ranked.now setting.now.charges.now
-            setting.now.workers setting.now.number self.old hand.old result self.new hand.new }
+        ensures step { (ranked : RankedOrders) (charges : ChargeTable) (workers number : ℕ) →
+            Steps H.did ranked charges workers number self.old hand.old result self.new hand.new }
         ensures serves { H.serves hand.new ≡ H.serves hand.old }
         ensures may { H.may_draw hand.new ≡ H.may_draw hand.old }
+        ensures ended { self.new.phase ≡ Phase.Ended }
     {
         hand.stop();
         self.go(Phase::Ended);
         Turn::Stopped
     }
 
-    fn look<H: Hand>(&mut self, setting: &Setting, hand: &mut H) -> Turn
+    fn look<H: Hand>(&mut self, hand: &mut H) -> Turn
         requires phase { self.old.phase ≡ Phase.Bounding }
-        ensures step { Steps H.did setting.now.ranked.now setting.now.charges.now
-            setting.now.workers setting.now.number self.old hand.old result self.new hand.new }
+        ensures step { (ranked : RankedOrders) (charges : ChargeTable) (workers number : ℕ) →
+            Steps H.did ranked charges workers number self.old hand.old result self.new hand.new }
         ensures serves { H.serves hand.new ≡ H.serves hand.old }
         ensures may { H.may_draw hand.new ≡ H.may_draw hand.old }
     {
@@ -175,10 +178,10 @@ impl Work {
         Turn::Moved
     }
 
-    fn publish<H: Hand>(&mut self, setting: &Setting, hand: &mut H) -> Turn
+    fn publish<H: Hand>(&mut self, hand: &mut H) -> Turn
         requires phase { self.old.phase ≡ Phase.Publishing }
-        ensures step { Steps H.did setting.now.ranked.now setting.now.charges.now
-            setting.now.workers setting.now.number self.old hand.old result self.new hand.new }
+        ensures step { (ranked : RankedOrders) (charges : ChargeTable) (workers number : ℕ) →
+            Steps H.did ranked charges workers number self.old hand.old result self.new hand.new }
         ensures serves { H.serves hand.new ≡ H.serves hand.old }
         ensures may { H.may_draw hand.new ≡ H.may_draw hand.old }
     {

@@ -5,9 +5,8 @@ use Rattle.std.proofs.Common.{◌≡◌, ◌<◌, ◌≤◌, ◌≢◌, ℕ, ◌
 use Rattle.std.proofs.Common.{ltb, eqb, List, [], ◌∷◌, ◌++◌, length, get_or, Option, Some, None}
 use Rattle.std.proofs.Common.{refl}
 use Rattle.std.proofs.Common.{sym, ap, ◌∙◌, subst, arith, le-leb, lt-ltb, ltb-true, ltb-false}
-use Rattle.std.proofs.Common.{eq-eqb, eqb-true, length-append, ◌⊎◌, inl, inr}
+use Rattle.std.proofs.Common.{eq-eqb, length-append, ◌⊎◌, inl, inr}
 use Rattle.std.specs.List.{AllByRecursion, AllPairs, list_any}
-use Rattle.std.proofs.lemmas.List.{length-map}
 use Rattle.std.proofs.lemmas.List.Folds.{list_any-append}
 use Rattle.std.proofs.lemmas.List.Quantifiers.{all_pairs_push}
 use Rattle.list_laws.specs.Sets.{same_list}
@@ -30,20 +29,19 @@ use Rattle.mill_laws.proofs.Merged.{sound-less}
 use Rattle.mill_laws.proofs.Paths.{tree-length}
 use Rattle.order_symmetry.specs.Ranked.{RankedOrders, orders_of}
 use Rattle.split_tree.specs.Keys.{Key, IsLiveKey}
-use Rattle.nogood_store.specs.Entries.{found}
 use Rattle.nogood_store.specs.declared.store.Entry.{Entry as Noted}
 use Rattle.search_step.specs.Parts.{Parts}
 use Rattle.search_step.specs.Serving.{IsPathOf}
 use Rattle.search_step.specs.Moves.{to, hold, aim, rested, took, stole, drew, looked, pushed}
 use Rattle.search_step.specs.Moves.{closed}
 use Rattle.search_step.specs.Moves.{commits, verdict, verdict_leaf, verdict_inner, verdict_open}
-use Rattle.search_step.specs.Moves.{new_worker}
+use Rattle.search_step.specs.Moves.{new_worker, pushing_or_resting}
 use Rattle.search_step.specs.Moves.{found_at, first_prices, second_prices, exceeds, noted, note_of}
-use Rattle.search_step.specs.Moves.{with_note, starts, is_leaf, lowers, loss_at, last_of, front}
+use Rattle.search_step.specs.Moves.{with_note, starts, is_leaf, loss_at, last_of, front}
 use Rattle.search_step.specs.Steps.{Steps, StepAt, IsSafe, HeldIn, Becomes, BecomesOrStays, Pushes}
 use Rattle.search_step.specs.Steps.{Closes, AreOf, FitsMill, IsNotedOf, task_at}
 use Rattle.search_step.specs.Honest.{IsHonest, KeepsHonest, IsKept, IsNotedIn, SplitsAnew, is_split}
-use Rattle.search_step.specs.Honest.{has_split, names_split}
+use Rattle.search_step.specs.Honest.{has_split, names_split, KeepsPlan}
 use Rattle.search_step.specs.declared.event.Event.{Event}
 use Rattle.search_step.specs.declared.parts.Phase.{Phase}
 use Rattle.search_step.specs.declared.parts.Phase.TheVariants.{Resting, Taking, Stealing, Holding}
@@ -52,7 +50,7 @@ use Rattle.search_step.specs.declared.parts.Phase.TheVariants.{Closing as Closin
 use Rattle.search_step.specs.declared.parts.Turn.{Turn}
 use Rattle.search_step.specs.declared.parts.Turn.TheVariants.{Moved, Drew, Idle, Stopped}
 use Rattle.search_step.specs.declared.parts.Turn.TheVariants.{OutOfMemory}
-use Rattle.search_step.specs.declared.parts.Verdict.TheVariants.{Better, Plain, ByPrices, ByOther}
+use Rattle.search_step.specs.declared.parts.Verdict.TheVariants.{Better, Plain, ByPrices}
 use Rattle.search_step.specs.declared.parts.Verdict.TheVariants.{Open}
 use Rattle.search_step.proofs.Soundness.{and-both, all-at, first-sound, second-sound, open-thrifty}
 use Rattle.search_step.proofs.Soundness.{leaf-kept, found-other, other-sound, none-stands}
@@ -111,6 +109,30 @@ any-last test xs x h =
     list_any-append test xs (x ∷ []) ∙ or-right (list_any test xs) (list_any test (x ∷ []))
     (rw h refl)
 
+-- the phases in which nothing is published
+abbrev is_publishing : Phase → Bool
+is_publishing Resting = false
+is_publishing Taking = false
+is_publishing Stealing = false
+is_publishing Holding = false
+is_publishing Halting = false
+is_publishing Ended = false
+is_publishing Bounding = false
+is_publishing ClosingNow = false
+is_publishing Publishing = true
+is_publishing Pushing = false
+
+quiet : (phase : Phase) → is_publishing phase ≡ false → phase ≡ Publishing → ⊥
+quiet phase q e = clash (is_publishing phase) (ap is_publishing e) q
+
+after-none : (several : Bool) → is_publishing (cond several Stealing Resting) ≡ false
+after-none true = refl
+after-none false = refl
+
+opened-quiet : (paths : List (List ℕ)) → is_publishing (pushing_or_resting paths) ≡ false
+opened-quiet [] = refl
+opened-quiet (path ∷ paths) = refl
+
 module _ {H : Type 0} (did : H → Event → H → Type 0) (ranked : RankedOrders)
     (charges : ChargeTable) (workers number : ℕ) (w : Parts) (h h' : H)
     (safe : IsSafe ranked charges workers number w) (fit : FitsMill ranked charges) where
@@ -122,9 +144,12 @@ module _ {H : Type 0} (did : H → Event → H → Type 0) (ranked : RankedOrder
 
   -- with the same records, notes, known loss and plan
   same-honest : (phase : Phase) (held : Option (List ℕ)) (waiting : List (List ℕ)) (victim : ℕ) →
+      is_publishing phase ≡ false →
       StaysHonest (record w { phase = phase; held = held; waiting = waiting; victim = victim })
-  same-honest phase held waiting victim = record {
+  same-honest phase held waiting victim no_news = record {
     falls = omega arith;
+    plan = inl refl;
+    publishes = λ e. absurd (quiet phase no_news e);
     keeps = λ start honest. record {
       at_most = honest.at_most;
       records = honest.records;
@@ -139,8 +164,13 @@ module _ {H : Type 0} (did : H → Event → H → Type 0) (ranked : RankedOrder
     };
   }
 
-  stays : StaysHonest w
-  stays = record { falls = omega arith; keeps = λ start honest. honest }
+  stays : is_publishing w.phase ≡ false → StaysHonest w
+  stays no_news = record {
+    falls = omega arith;
+    plan = inl refl;
+    publishes = λ e. absurd (quiet w.phase no_news e);
+    keeps = λ start honest. honest;
+  }
 
   carry : (w' v : Parts) → w' ≡ v → StaysHonest v → StaysHonest w'
   carry w' v e k = subst StaysHonest (sym e) k
@@ -148,6 +178,8 @@ module _ {H : Type 0} (did : H → Event → H → Type 0) (ranked : RankedOrder
   look-honest : (n : ℕ) → StaysHonest (looked w n).0
   look-honest n = record {
     falls = omega arith;
+    plan = inl refl;
+    publishes = λ e. absurd (quiet ClosingNow refl e);
     keeps = λ start honest. record {
       at_most = (let a = honest.at_most in omega arith);
       records = each-weaker (λ entry. sound task w.known entry.path entry.closing ≡ true)
@@ -218,21 +250,30 @@ module _ {H : Type 0} (did : H → Event → H → Type 0) (ranked : RankedOrder
           all_pairs_push (SplitsAnew task) w.piece (entry closing) (honest.anew few)
           (λ k d m. new few d k d m)
 
+    abbrev closing_with : Closing → Phase → ℕ → Option Start → Parts
+    closing_with closing phase known best =
+        record w {
+          phase = phase;
+          held = None;
+          piece = piece closing;
+          known = known;
+          best = best;
+        }
+
     -- a record that doesn't split its path
     record-honest : (closing : Closing) (phase : Phase) (known : ℕ) (best : Option Start) →
         known ≤ w.known → sound task known path closing ≡ true → is_split closing ≡ false →
         ((start : ℕ) → IsHonest ranked charges start w → names_split w.piece closing ≡ true) →
         ((start : ℕ) → IsHonest ranked charges start w → (start : Start) → best ≡ Some start →
         IsKept ranked charges start × (known ≤ start.loss)) →
-        StaysHonest (record w {
-          phase = phase;
-          held = None;
-          piece = piece closing;
-          known = known;
-          best = best;
-        })
-    record-honest closing phase known best l s unsplit names keeps = record {
+        (best ≡ w.best) ⊎ ((b : Start) × KeepsPlan w (closing_with closing phase known best) b) →
+        (phase ≡ Publishing →
+        (b : Start) × KeepsPlan w (closing_with closing phase known best) b) →
+        StaysHonest (closing_with closing phase known best)
+    record-honest closing phase known best l s unsplit names keeps plan publishes = record {
       falls = l;
+      plan = plan;
+      publishes = publishes;
       keeps = λ start honest. record {
         at_most = (let a = honest.at_most in omega arith);
         records = records-more start honest closing known l s;
@@ -265,7 +306,8 @@ module _ {H : Type 0} (did : H → Event → H → Type 0) (ranked : RankedOrder
         StaysHonest (record w { phase = Resting; held = None; piece = piece closing })
     plain-honest closing s unsplit names =
         record-honest closing Resting w.known w.best (omega arith) s unsplit names
-        (λ start honest best e. (honest.kept best e, honest.above best e))
+        (λ start honest best e. (honest.kept best e, honest.above best e)) (inl refl)
+        (λ e. absurd (quiet Resting refl e))
 
     leaf-honest : (key : Key) (plan : List ℕ) → AreOf ranked charges w.known path key plan →
         is_leaf task path ≡ true → (better : Bool) → ltb (loss_at task path) w.known ≡ better →
@@ -273,16 +315,19 @@ module _ {H : Type 0} (did : H → Event → H → Type 0) (ranked : RankedOrder
         (cond better (Better (record { plan = plan; loss = loss_at task path })) Plain))
     leaf-honest key plan are full true e =
         let less : loss_at task path < w.known = ltb-true _ _ e in
-        record-honest Leaf Publishing (loss_at task path)
-        (Some (record { plan = plan; loss = loss_at task path })) (omega arith)
+        let start : Start = record { plan = plan; loss = loss_at task path } in
+        let keeps : KeepsPlan w (closing_with Leaf Publishing (loss_at task path) (Some start))
+        start = record { kept = refl; less = less; known = refl; next = refl } in
+        record-honest Leaf Publishing (loss_at task path) (Some start) (omega arith)
         (and-both _ _ full (le-leb (loss_at task path) (loss_at task path) (omega arith))) refl
         (λ start honest. refl)
-        (λ start honest best q.
-        (let same = some-start (record { plan = plan; loss = loss_at task path }) best q in (
+        (λ first honest best q. (let same = some-start start best q in (
           subst (IsKept ranked charges) same
               (leaf-kept ranked charges path tree plan (are.lowered (rw (full, e) refl))),
-          (let l : loss_at task path ≡ best.loss = ap (λ (b : Start). b.loss) same in omega arith),
+          (let l : loss_at task path ≡ best.loss = ap (λ (b : Start). b.loss) same in
+              omega arith),
         )))
+        (inr (start, keeps)) (λ next. (start, keeps))
     leaf-honest key plan are full false e =
         plain-honest Leaf (and-both _ _ full (le-leb _ _ (ltb-false _ _ e))) refl
         (λ start honest. refl)
@@ -377,6 +422,9 @@ module _ {H : Type 0} (did : H → Event → H → Type 0) (ranked : RankedOrder
           (Open (children task.mill task.ranked path) (noted task key path)))
       split-honest l first second none = record {
         falls = omega arith;
+        plan = inl refl;
+        publishes = λ e. absurd (quiet (pushing_or_resting (children task.mill task.ranked path))
+            (opened-quiet (children task.mill task.ranked path)) e);
         keeps = λ start honest. record {
           at_most = honest.at_most;
           records = records-more start honest Split w.known (omega arith) (lt-ltb _ _ l);
@@ -484,59 +532,61 @@ module _ {H : Type 0} (did : H → Event → H → Type 0) (ranked : RankedOrder
         where
           stopped-memory : Stopped ≡ OutOfMemory → ⊥
           stopped-memory q = cc
-      go OutOfMemory a b = carry w' w b stays
+      go OutOfMemory a b = carry w' w b (stays (ap is_publishing is))
 
-  push-honest : (turn : Turn) (w' : Parts) (path : Option (List ℕ)) →
+  push-honest : w.phase ≡ Pushing → (turn : Turn) (w' : Parts) (path : Option (List ℕ)) →
       Pushes did path w h turn w' h' → StaysHonest w'
-  push-honest turn w' None b =
-      carry w' (to Resting w) b.1.0 (same-honest Resting w.held w.waiting w.victim)
-  push-honest Moved w' (Some path) b =
-      carry w' (pushed w (front w.waiting)).0 b.1.0 (same-honest _ w.held (front w.waiting)
-      w.victim)
-  push-honest OutOfMemory w' (Some path) b = carry w' w b.1 stays
-  push-honest Drew w' (Some path) b = absurd b
-  push-honest Idle w' (Some path) b = absurd b
-  push-honest Stopped w' (Some path) b = absurd b
+  push-honest is turn w' None b =
+      carry w' (to Resting w) b.1.0 (same-honest Resting w.held w.waiting w.victim refl)
+  push-honest is Moved w' (Some path) b =
+      carry w' (pushed w (front w.waiting)).0 b.1.0
+      (same-honest _ w.held (front w.waiting) w.victim (opened-quiet (front w.waiting)))
+  push-honest is OutOfMemory w' (Some path) b =
+      carry w' w b.1 (stays (ap is_publishing is))
+  push-honest is Drew w' (Some path) b = absurd b
+  push-honest is Idle w' (Some path) b = absurd b
+  push-honest is Stopped w' (Some path) b = absurd b
 
   honest-at : (phase : Phase) → w.phase ≡ phase → (turn : Turn) (w' : Parts) →
       StepAt did ranked charges workers number phase w h turn w' h' → StaysHonest w'
   honest-at Resting is turn w' b = rest b.0 b.2
     where
       rest : (standing : Standing) → Becomes w' turn (rested w standing) → StaysHonest w'
-      rest Going c = carry w' (to Taking w) c.0 (same-honest Taking w.held w.waiting w.victim)
-      rest Halted c = carry w' w c.0 stays
-      rest Drained c = carry w' w c.0 stays
+      rest Going c = carry w' (to Taking w) c.0 (same-honest Taking w.held w.waiting w.victim refl)
+      rest Halted c = carry w' w c.0 (stays (ap is_publishing is))
+      rest Drained c = carry w' w c.0 (stays (ap is_publishing is))
   honest-at Taking is turn w' b = take b.0 b.3
     where
       take : (path : Option (List ℕ)) → Becomes w' turn (took workers w path) → StaysHonest w'
       take None c =
-          carry w' (took workers w None).0 c.0 (same-honest _ w.held w.waiting w.victim)
+          carry w' (took workers w None).0 c.0
+          (same-honest _ w.held w.waiting w.victim (after-none (ltb 1 workers)))
       take (Some path) c =
-          carry w' (hold path w) c.0 (same-honest Holding (Some path) w.waiting w.victim)
+          carry w' (hold path w) c.0 (same-honest Holding (Some path) w.waiting w.victim refl)
   honest-at Stealing is turn w' b = steal b.0 b.3
     where
       steal : (path : Option (List ℕ)) → Becomes w' turn (stole workers number w path) →
           StaysHonest w'
       steal None c =
-          carry w' (stole workers number w None).0 c.0 (same-honest Resting w.held w.waiting _)
+          carry w' (stole workers number w None).0 c.0 (same-honest Resting w.held w.waiting _ refl)
       steal (Some path) c =
           carry w' (hold path (aim workers number w)) c.0
-          (same-honest Holding (Some path) w.waiting _)
+          (same-honest Holding (Some path) w.waiting _ refl)
   honest-at Holding is turn w' b = draw b.0 b.2
     where
       draw : (ticket : Draw) → Becomes w' turn (drew w ticket) → StaysHonest w'
       draw (Ticket t) c =
-          carry w' (to Bounding w) c.0 (same-honest Bounding w.held w.waiting w.victim)
+          carry w' (to Bounding w) c.0 (same-honest Bounding w.held w.waiting w.victim refl)
       draw (Spent t) c =
-          carry w' (to Halting w) c.0 (same-honest Halting w.held w.waiting w.victim)
+          carry w' (to Halting w) c.0 (same-honest Halting w.held w.waiting w.victim refl)
   honest-at Halting is turn w' b =
-      carry w' (to Ended w) b.1.0 (same-honest Ended w.held w.waiting w.victim)
-  honest-at Ended is turn w' b = carry w' w b.1.0 stays
+      carry w' (to Ended w) b.1.0 (same-honest Ended w.held w.waiting w.victim refl)
+  honest-at Ended is turn w' b = carry w' w b.1.0 (stays (ap is_publishing is))
   honest-at Bounding is turn w' b = carry w' (looked w b.0).0 b.2.0 (look-honest b.0)
   honest-at ClosingNow is turn w' b = close-honest is turn w' b.1
   honest-at Publishing is turn w' b =
-      carry w' (to Resting w) b.2.0 (same-honest Resting w.held w.waiting w.victim)
-  honest-at Pushing is turn w' b = push-honest turn w' (last_of w.waiting) b
+      carry w' (to Resting w) b.2.0 (same-honest Resting w.held w.waiting w.victim refl)
+  honest-at Pushing is turn w' b = push-honest is turn w' (last_of w.waiting) b
 
   pub steps-stay-honest : (turn : Turn) (w' : Parts) →
       Steps did ranked charges workers number w h turn w' h' → StaysHonest w'

@@ -1,9 +1,9 @@
--- Each record of a closing is sound, and its split is thrifty: the prices that it records are valid,
+-- Each record of a closing is sound, and its split is thrifty: the recorded prices are valid,
 -- a path that the store finds has the live key of the held one and at most its dead loss, and a
 -- path is split only where neither prices are worth more than 60 * (known - 1).
 use Rattle.std.proofs.Common.{◌≡◌, ◌<◌, ◌≤◌, inl, inr, ℕ, zero, suc, Bool, true, false, cond, ◌&&◌}
 use Rattle.std.proofs.Common.{◌||◌, map}
-use Rattle.std.proofs.Common.{leb, eqb, List, [], ◌∷◌, ◌++◌, length, get_or, Option, Some, None}
+use Rattle.std.proofs.Common.{leb, eqb, List, [], ◌∷◌, length, get_or, Option, Some, None}
 use Rattle.std.proofs.Common.{refl}
 use Rattle.std.proofs.Common.{sym, ap, ◌∙◌, subst, arith, eq-eqb, eqb-true, ℤ, pos}
 use Rattle.std.specs.Prelude.{◌-ℤ◌, ◌*ℤ◌, int_lt, int_le}
@@ -12,20 +12,16 @@ use Rattle.std.proofs.lemmas.Int.{ints}
 use Rattle.list_laws.specs.Sets.{same_list}
 use Rattle.list_laws.proofs.Tests.{either, and-left, and-right, clash}
 use Rattle.list_laws.proofs.Sums.{each_below-from}
-use Rattle.list_laws.proofs.Among.{Among, each-at, any-among, any-from}
+use Rattle.list_laws.proofs.Among.{each-at, any-among, any-from}
 use Rattle.list_laws.proofs.Times.{same_list-eq}
 use Rattle.mill_model.specs.Charges.{ChargeTable, charge_of}
 use Rattle.mill_model.specs.LiveKey.{same_live_key}
 use Rattle.mill_model.specs.Log.{Task, sound}
-use Rattle.mill_model.specs.Bounds.{swept_worth}
-use Rattle.mill_model.specs.Plan.{slab, legal_plan, loss, IsPlanWithLoss}
-use Rattle.mill_model.specs.Prices.{worth}
-use Rattle.mill_model.specs.Rank.{rank, ranked_orders, starts_class_in}
-use Rattle.mill_model.specs.Size.{may_split}
+use Rattle.mill_model.specs.Plan.{slab, legal_plan, loss}
+use Rattle.mill_model.specs.Rank.{ranked_orders, starts_class_in}
 use Rattle.mill_model.specs.Slab.{legal}
 use Rattle.mill_model.specs.Thrift.{is_open}
 use Rattle.mill_model.specs.declared.closing.Closing.TheVariants.{Priced, Dominated}
-use Rattle.mill_model.specs.declared.order.Order.{Order}
 use Rattle.mill_laws.specs.PriceLaws.{AreValidAt}
 use Rattle.mill_laws.proofs.Paths.{tree-fits}
 use Rattle.mill_laws.proofs.PriceLaws.{ascent-prices-are-valid, swept-prices-are-valid}

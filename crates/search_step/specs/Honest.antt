@@ -1,7 +1,7 @@
 -- What a worker's records, notes and kept plan say.
 use Rattle.std.specs.Prelude.{ℕ, ◌≡◌, ◌≤◌, Bool, true, false, ◌&&◌, ◌||◌, leb, List, [], ◌∷◌}
 use Rattle.std.specs.Prelude.{length}
-use Rattle.std.specs.Prelude.{Option, Some}
+use Rattle.std.specs.Prelude.{Some, ◌<◌, ◌⊎◌}
 use Rattle.std.specs.List.{AllByRecursion, AllPairs, list_any}
 use Rattle.list_laws.specs.Sets.{same_list}
 use Rattle.mill_model.specs.Charges.{ChargeTable, charge_of}
@@ -20,6 +20,7 @@ use Rattle.nogood_store.specs.declared.store.Entry.{Entry as Noted}
 use Rattle.search_step.specs.Parts.{Parts}
 use Rattle.search_step.specs.Moves.{starts, dead_loss_at}
 use Rattle.search_step.specs.Steps.{task_at}
+use Rattle.search_step.specs.declared.parts.Phase.TheVariants.{Publishing}
 
 -- whether a record splits its path
 abbrev pub is_split : Closing → Bool
@@ -88,8 +89,19 @@ pub record IsHonest (ranked : RankedOrders) (charges : ChargeTable) (start : ℕ
       AllByRecursion (IsNotedIn (task_at ranked charges) w.store.entries) w.piece
   pub notes : length w.store.entries ≤ length w.piece
 
--- a step keeps this for each loss at the start, and the known loss never rises
+-- a step keeps a plan that loses less than was known before: its loss is now known, and the next
+-- step publishes it
+pub record KeepsPlan (w w' : Parts) (best : Start) : Type 0 where
+  pub kept : w'.best ≡ Some best
+  pub less : best.loss < w.known
+  pub known : w'.known ≡ best.loss
+  pub next : w'.phase ≡ Publishing
+
+-- A step keeps this for each loss at the start, and the known loss never rises. Either the plan
+-- stays, or a better one is kept, and only then the next step publishes.
 pub record KeepsHonest (ranked : RankedOrders) (charges : ChargeTable) (w w' : Parts)
     : Type 0 where
   pub falls : w'.known ≤ w.known
   pub keeps : (start : ℕ) → IsHonest ranked charges start w → IsHonest ranked charges start w'
+  pub plan : (w'.best ≡ w.best) ⊎ ((best : Start) × KeepsPlan w w' best)
+  pub publishes : w'.phase ≡ Publishing → (best : Start) × KeepsPlan w w' best

@@ -4,8 +4,9 @@
 -- among the live groups of another path as its key group does among the other's. Key groups are in
 -- a total order in which only equal ones tie, so sorted lists that have each as often are one list.
 use Rattle.std.proofs.Common.{ℕ, zero, suc, ◌+◌, ◌-◌, ◌<◌, ◌≡◌, ◌&&◌, ◌||◌, Bool, true, false, cond}
-use Rattle.std.proofs.Common.{not, List, [], ◌∷◌, ◌++◌, map, filter, length, drop, replicate, get_or}
-use Rattle.std.proofs.Common.{eqb, eqb-true, eq-eqb, refl, sym, ap, ap₂, ◌∙◌, subst, arith, inl, inr}
+use Rattle.std.proofs.Common.{List, [], ◌∷◌, ◌++◌, map, filter, length, drop, replicate, get_or}
+use Rattle.std.proofs.Common.{eqb, eqb-true, eq-eqb, refl, sym, ap, ap₂, ◌∙◌, subst, arith, inl}
+use Rattle.std.proofs.Common.{inr}
 use Rattle.std.proofs.Common.{Ordering, Less, Equal, Greater}
 use Rattle.std.specs.Prelude.{Contains}
 use Rattle.std.specs.Cmp.Lexicographic.{slice_cmp}
@@ -34,8 +35,7 @@ use Rattle.mill_model.specs.declared.order.Order.{Order}
 use Rattle.mill_laws.proofs.Mated.{same_marks-refl, same_marks-eq}
 use Rattle.order_symmetry.specs.Ranked.{RankedOrders, IsRanked, orders_of}
 use Rattle.order_symmetry.proofs.Limits.{each-order}
-use Rattle.split_tree.specs.Node.{Node}
-use Rattle.split_tree.specs.Keys.{Key, IsLiveKey, IsRisingListOf, group_order, key_order, same_key}
+use Rattle.split_tree.specs.Keys.{Key, IsLiveKey, IsRisingListOf, group_order, same_key}
 use Rattle.split_tree.specs.Keys.{key_group, padded, EqualKeysAreSameLiveKeys}
 use Rattle.split_tree.specs.KeyLaws.{group_total}
 use Rattle.split_tree.specs.declared.live_key.KeyGroup.{KeyGroup}

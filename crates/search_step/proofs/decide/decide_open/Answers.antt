@@ -10,6 +10,7 @@ use Rattle.search_step.specs.declared.parts.Verdict.TheVariants.{Open}
 use Rattle.search_step.proofs.Deciding.{open-noted, open-plain}
 use Rattle.search_step.proofs.decide.decide_open.Goals as goal
 use Rattle.search_step.proofs.decide.decide_open.Goals.{}
+use Rattle.search_step.proofs.decide.decide_open.Goals.{}
 use Rattle.search_step.proofs.decide.decide_open.Goals.{then-starts_class+in_ok-key+in_default+in_ok-copy-2}
 use Rattle.search_step.proofs.decide.decide_open.Goals.{else-starts_class}
 

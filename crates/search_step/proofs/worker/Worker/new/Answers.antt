@@ -1,6 +1,5 @@
-use Rattle.std.proofs.Common.{length, sym, subst}
+use Rattle.std.proofs.Common.{sym, subst}
 use Rattle.search_step.specs.Honest.{IsHonest}
-use Rattle.search_step.specs.Moves.{new_worker}
 use Rattle.search_step.specs.Parts.{Parts}
 use Rattle.search_step.proofs.Honesty.{new-honest}
 use Rattle.search_step.proofs.worker.Worker.new.Goals as goal

@@ -11,13 +11,23 @@
 # over them: the first 400 nodes of a depth-first walk, with 111 orders, size 44 and two colours a
 # slab. The walk splits those nodes that may lead to a plan better than that of first fit.
 # The plain knapsack takes all orders once, colour by colour, with a table for all loads for each
-# number of colours. The orders are drawn, with weights up to half the largest size and about two
-# orders of each colour, for a mill of four sizes.
+# number of colours. The instances are those of make_instance, with weights up to half the largest
+# size and about two orders of each colour, for a mill of four sizes.
 . "$(dirname "$0")/workspace.sh"
 
+build_maker
+{
+    for size in 44 20000; do
+        on_four_sizes 40 20 "$size"
+        on_four_sizes 111 60 "$size"
+        on_four_sizes 1024 500 "$size"
+    done
+    # That of the walk.
+    on_four_sizes 111 60 44
+} >"$scratch/instances"
 build prices_time
 echo "orders size p depth groups ascent both plain ratio_ascent ratio_both"
-"$program" | awk '
+"$program" <"$scratch/instances" | awk '
     $1 == "walk" { printf "walk %d %.1f\n", $2, $3 / 1000 / $2; next }
     {
         ascent = $6 / 1000; both = $7 / 1000; plain = $8 / 1000;

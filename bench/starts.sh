@@ -18,8 +18,7 @@
 . "$(dirname "$0")/workspace.sh"
 
 moves=${1:-1000}
-build make_instance
-maker=$program
+build_maker
 build starts_time
 
 # The row of the instance that these words make, with the least times.

@@ -81,3 +81,24 @@ least_time() {
 
 # ratio A B: A / B with one decimal.
 ratio() { awk -v a="$1" -v b="$2" 'BEGIN { if (b > 0) printf "%.1f", a / b; else printf "-" }'; }
+
+# Builds make_instance; sets `maker` to where it is.
+build_maker() {
+    build make_instance
+    maker=$program
+}
+
+# Prints the instance that make_instance makes of these words, with its orders in rank: by falling
+# weight, then by rising colour.
+in_rank() {
+    "$maker" "$@" >"$scratch/drawn"
+    head -3 "$scratch/drawn"
+    tail -n +4 "$scratch/drawn" | sort -k1,1nr -k2,2n
+}
+
+# on_four_sizes ORDERS COLOURS SIZE: an instance with its orders in rank, on four sizes up to this
+# one, with weights up to half of it.
+on_four_sizes() {
+    in_rank 1 "$1" --heaviest $(($3 / 2)) --colours "$2" \
+        $(($3 / 4)) $(($3 / 2)) $(($3 - $3 / 4)) "$3"
+}

@@ -4,9 +4,9 @@
 # Each row: the number of orders, the largest size, the most colours of a slab, the depth of the
 # node on the first-fit path, the groups there; then in microseconds: the ascent, the ascent with
 # one sweep and what the prices are worth then, and the plain knapsack; and the ratios of the first
-# two to the last. All are timed in one run of one program: the plain knapsack as the least of ten, the
-# others as the least of as many as half a second has room for, of two at least and 1,001 at most. With 1,024 orders and size 20,000 only slabs of one and
-# two colours are timed.
+# two to the last. All are timed in one run of one program: the plain knapsack as the least of ten,
+# the others as the least of as many as half a second has room for, of two at least and 1,001 at
+# most. With 1,024 orders and size 20,000 only slabs of one and two colours are timed.
 # The last row, which begins with `walk`, has a number of nodes and the mean of ascent with sweep
 # over them: the first 400 nodes of a depth-first walk, with 111 orders, size 44 and two colours a
 # slab. The walk splits those nodes that may lead to a plan better than that of first fit.

@@ -8,3 +8,4 @@ pub mod Losses
 pub mod Live
 pub mod Coming
 pub mod LiveGroups
+pub mod SameKeys

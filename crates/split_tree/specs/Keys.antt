@@ -9,9 +9,9 @@ use Rattle.std.specs.declared.cmp.Ordering.{Ordering}
 use Rattle.list_laws.specs.Sets.{below}
 use Rattle.mill_model.specs.Slab.{load, colours}
 use Rattle.mill_model.specs.Tree.{later_orders, next_new}
-use Rattle.mill_model.specs.LiveKey.{has_colour, has_live}
+use Rattle.mill_model.specs.LiveKey.{has_colour, has_live, same_live_key}
 use Rattle.mill_model.specs.declared.order.Order.{Order}
-use Rattle.order_symmetry.specs.Ranked.{orders_of}
+use Rattle.order_symmetry.specs.Ranked.{RankedOrders, IsRanked, orders_of}
 use Rattle.split_tree.specs.Node.{Node, group_of}
 use Rattle.split_tree.specs.declared.live_key.KeyGroup.{KeyGroup}
 use Rattle.split_tree.specs.declared.live_key.TheConstants.{NO_COLOUR}
@@ -73,3 +73,11 @@ pub record IsLiveKey (node : Node) (key : Key) : Type 0 where
   pub groups :
       IsPermutation (map (λ g. key_group coming (group_of node g)) (live_numbers node)) key.groups
   pub sorted : IsSortedByKey (λ group. group) group_order key.groups
+
+-- Keys of two paths of one tree are equal exactly where the live keys of the paths are the same.
+abbrev pub EqualKeysAreSameLiveKeys : Type 0
+EqualKeysAreSameLiveKeys =
+    (ranked : RankedOrders) (q r : List ℕ) (a b : Key) → IsRanked ranked →
+    IsLiveKey (record { ranked = ranked; path = q }) a →
+    IsLiveKey (record { ranked = ranked; path = r }) b →
+    same_key a b ≡ same_live_key ranked.mill (orders_of ranked) q r

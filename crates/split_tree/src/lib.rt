@@ -8,5 +8,5 @@ mod node;
 mod tests;
 
 pub use groups::join_group;
-pub use live_key::{KeyGroup, LiveKey, NO_COLOUR};
+pub use live_key::{KeyGroup, LiveKey, NO_COLOUR, equal_keys_are_same_live_keys};
 pub use node::NodeState;

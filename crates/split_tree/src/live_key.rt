@@ -9,7 +9,7 @@ ghost use Rattle.mill_model.specs.declared.order.Order.{Order};
 ghost use Rattle.order_symmetry.specs.Ranked.{orders_of};
 ghost use Rattle.slab_rules.specs.OpenSlab.{Carries};
 ghost use Rattle.split_tree.specs.Keys.{IsLiveKey, IsRisingListOf, key_group, key_order, padded};
-ghost use Rattle.split_tree.specs.Keys.{rest_of, same_key};
+ghost use Rattle.split_tree.specs.Keys.{EqualKeysAreSameLiveKeys, rest_of, same_key};
 ghost use Rattle.split_tree.specs.KeyLaws.{key_equal, key_total};
 ghost use Rattle.std.specs.Cmp.{partial_equiv_from_equiv, partial_order_from_agreeing_total};
 ghost use Rattle.std.specs.Ordering.{as_partial_cmp};
@@ -75,6 +75,11 @@ impl LiveKey {
         })
     }
 }
+
+/// Two keys of paths of one tree are equal exactly where the paths' live keys are the same.
+pub fn equal_keys_are_same_live_keys()
+    ensures { EqualKeysAreSameLiveKeys }
+{}
 
 impl PartialEq for LiveKey {
     ghost eq = { same_key };

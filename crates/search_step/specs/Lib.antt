@@ -6,3 +6,4 @@ pub mod Decided
 pub mod Accounts
 pub mod Worker
 pub mod Honest
+pub mod Promise

@@ -1,0 +1,3 @@
+pub mod ByPath
+pub mod Reordered
+pub mod MergedLog

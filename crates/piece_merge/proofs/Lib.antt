@@ -1,3 +1,4 @@
 pub mod ByPath
 pub mod Reordered
 pub mod MergedLog
+pub mod Rows

@@ -10,3 +10,5 @@ pub mod Falls
 pub mod Good
 pub mod Found
 pub mod Ends
+pub mod Starts
+pub mod Last

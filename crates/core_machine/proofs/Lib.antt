@@ -12,3 +12,7 @@ pub mod Found
 pub mod Ends
 pub mod Starts
 pub mod Last
+pub mod Joined
+pub mod Bests
+pub mod InTree
+pub mod Promise

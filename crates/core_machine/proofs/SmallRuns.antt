@@ -1,5 +1,6 @@
 -- The rows compute, once the list of the charges is known.
-use Rattle.std.proofs.Common.{ℕ, ◌≡◌, ◌≤◌, true, List, [], ◌∷◌, map, Some, None, refl, sym, subst, All}
+use Rattle.std.proofs.Common.{ℕ, ◌≡◌, ◌≤◌, true, List, [], ◌∷◌, map, Some, None, refl, sym, subst}
+use Rattle.std.proofs.Common.{All}
 use Rattle.std.proofs.Common.{slice_index}
 use Rattle.mill_model.specs.Charges.{ChargeTable}
 use Rattle.mill_model.specs.Log.{recorded}

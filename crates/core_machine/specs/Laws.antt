@@ -1,5 +1,5 @@
--- The laws of the machine: its events are the steps of workers, each run ends in one state, and what
--- is left there keeps the promise of a run.
+-- The laws of the machine: its events are the steps of workers, each run ends in one state, and
+-- what is left there keeps the promise of a run.
 use Rattle.std.specs.Prelude.{ℕ, ◌<◌, ◌≤◌, ◌≡◌, ◌≢◌, true, min, List, [], ◌++◌, length, set}
 use Rattle.std.specs.List.{AllByRecursion}
 use Rattle.mill_laws.specs.RunLaws.{EachRecord}

@@ -1,6 +1,6 @@
 -- Runs of a small machine, computed. The orders are (1, 1), (1, 2) and (2, 3) with two colours a
--- slab and the one size 4, in rank (2, 3), (1, 1), (1, 2). A start on one slab for each loses 4 with
--- the first and the last order together.
+-- slab and the one size 4, in rank (2, 3), (1, 1), (1, 2). Their least loss is 4, which the workers
+-- know from the start.
 use Rattle.std.specs.Prelude.{ℕ, ◌≡◌, true, List, [], ◌∷◌, map, Some, None}
 use Rattle.mill_model.specs.Charges.{ChargeTable}
 use Rattle.mill_model.specs.Log.{recorded}

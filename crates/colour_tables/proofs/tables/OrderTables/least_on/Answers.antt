@@ -42,4 +42,5 @@ returns-clause-small c =
     let e = returns-clause-is c (stand-in c.args.slab.load c.requires.known.own)
     (known-stands _ c.args.slab c.requires.known) in
     subst (IsSmall table_slack_limit) (sym e)
-    (least_slack-within o.charges o.rest o.prices few priced (two_colours o.largest) (stand-in c.args.slab.load c.requires.known.own))
+    (least_slack-within o.charges o.rest o.prices few priced
+    (two_colours o.largest) (stand-in c.args.slab.load c.requires.known.own))

@@ -37,7 +37,8 @@ returns-clause-is c =
           (λ group carries fits. w.least_on_without_at.ensures.is group carries fits)
       | in-Layers w ↦ w.result-is
           ∙ on-layers c.args.self.now inside c.self.view_is found c.args.g
-          w.deref-in-Layers.result.now w.deref-in-Layers.ensures.value w.least_on_without.result w.in-Layers.knapsack
+          w.deref-in-Layers.result.now w.deref-in-Layers.ensures.value
+          w.least_on_without.result w.in-Layers.knapsack
           (subst (Serves inside) w.in-Layers.is c.self.invariant.2) c.groups-groups.result.now
           c.groups-groups.ensures.is w.index-groups-g.result (search rules) w.index-groups-g.is
           w.least_on_without.ensures.is

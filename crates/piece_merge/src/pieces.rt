@@ -3,6 +3,7 @@ ghost use Rattle.std.specs.List.Sorted.{IsPermutation};
 ghost use Rattle.mill_model.specs.Conserved.{joined};
 ghost use Rattle.mill_model.specs.Log.{recorded};
 ghost use Rattle.refute_log.specs.Fits.{fits};
+ghost use Rattle.refute_log.specs.Logged.{IsLog};
 ghost use Rattle.refute_log.specs.Rising.{rises};
 ghost use Rattle.piece_merge.specs.Merging.{records_of, AreOfAWholeRun, IsCompleteLogOf};
 ghost use Rattle.piece_merge.specs.Merging.{NamesSettledPaths, IsRecordedOnce};
@@ -20,6 +21,7 @@ pub fn merge(alloc: Global, orders: u16, pieces: Vec<Piece>) -> Result<Log, OutO
     ensures records { IfOk result (λ log.
         IsPermutation (joined (records_of pieces.items)) log.entries) }
     ensures orders { IfOk result (λ log. log.orders ≡ orders) }
+    ensures log { IfOk result IsLog }
     ensures complete { IfOk result (λ log.
         IsCompleteLogOf (records_of pieces.items) log.entries) }
     ensures named { IfOk result (λ log. NamesSettledPaths log.entries) }

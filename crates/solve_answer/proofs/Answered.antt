@@ -1,21 +1,21 @@
 -- What is answered where a search ended: a best plan with its log, if it is asked for, where no
 -- path is left, and else the plan that was found, with the run.
-use Rattle.std.proofs.Common.{◌≡◌, ◌≢◌, ℕ, ◌<◌, ◌≤◌, true, All, List, [], length, min, refl, sym}
-use Rattle.std.proofs.Common.{◌∙◌, subst, arith}
+use Rattle.std.proofs.Common.{◌≡◌, ◌≢◌, ℕ, ◌<◌, ◌≤◌, true, All, List, [], length, refl}
+use Rattle.std.proofs.Common.{◌∙◌, ◌∷◌, ap, subst, arith}
 use Rattle.std.specs.Prelude.{Option, Some, None, IfSome}
 use Rattle.std.specs.List.{AllByRecursion}
 use Rattle.std.specs.List.Sorted.{IsPermutation}
 use Rattle.std.proofs.lemmas.List.Elements.{All-from_recursion, recursion_from_All}
 use Rattle.std.proofs.lemmas.List.Sorted.{All-permutation, length_permutation}
 use Rattle.std.proofs.lemmas.Option.{slice_get_within}
-use Rattle.mill_model.specs.Best.{IsFeasible, IsTidyPlan}
+use Rattle.mill_model.specs.Best.{IsTidyPlan}
 use Rattle.mill_model.specs.Conserved.{joined, IsConserved}
 use Rattle.mill_model.specs.Heavy.{NoneHeavy, IsFirstHeavy}
 use Rattle.mill_model.specs.Instance.{Problem, IsInstance, largest, mill_of, loss_charge}
-use Rattle.mill_model.specs.Log.{Refutes, sound}
+use Rattle.mill_model.specs.Log.{sound}
 use Rattle.mill_model.specs.Plan.{NoneLosesLess}
 use Rattle.mill_model.specs.Size.{enough, may_split, thrifty_size}
-use Rattle.mill_model.specs.Thrift.{splits_thriftily, AreThrifty}
+use Rattle.mill_model.specs.Thrift.{splits_thriftily}
 use Rattle.mill_model.specs.Tree.{canonical}
 use Rattle.mill_model.specs.declared.closing.Entry.{Entry}
 use Rattle.mill_model.specs.declared.limits.Limits.{Limits}
@@ -27,6 +27,7 @@ use Rattle.mill_laws.proofs.PlanLaws.{canonical-form-loses-the-same}
 use Rattle.mill_laws.proofs.Ranked.{ranked-count}
 use Rattle.mill_laws.proofs.RunLaws.{pieces-refute}
 use Rattle.mill_laws.proofs.TreeLaws.{tree-has-at-most}
+use Rattle.refute_log.specs.Fits.{fits}
 use Rattle.refute_log.specs.Logged.{Logged, IsLog}
 use Rattle.refute_log.specs.declared.piece.Run.{Run}
 use Rattle.answer_text.specs.Text.{Fits, most_orders}
@@ -35,11 +36,19 @@ use Rattle.answer_text.proofs.Printed.{may-print, read-back}
 use Rattle.reply_text.specs.declared.solution.Solution.{Solution}
 use Rattle.search_step.specs.Promise.{records_of}
 use Rattle.piece_merge.specs.Merging.{IsCompleteLogOf, NamesSettledPaths}
-use Rattle.solve_answer.specs.Searched.{loss_task, OfStartBound, HasStopped}
+use Rattle.solve_answer.specs.Searched.{loss_task, HasStopped}
 use Rattle.solve_answer.specs.Solved.{IsSpent, IsRefutation, IsTold}
 use Rattle.solve_answer.specs.Search.{HasSearched}
 use Rattle.solve_answer.proofs.LossLimit.{optimal-fits, feasible-fits}
 use Rattle.solve_answer.proofs.Thrift.{below-thrifty-tree}
+
+-- a list is empty by its length
+pub none-by-length : {X : Type 0} (xs : List X) → length xs ≡ 0 → xs ≡ []
+none-by-length [] count = refl
+none-by-length (x ∷ xs) count = absurd (omega (arith, count))
+
+pub some-by-length : {X : Type 0} (xs : List X) → 0 < length xs → xs ≢ []
+some-by-length xs some none = omega (arith, some, ap length none)
 
 module _ (limits : Limits) (schedule : List ℕ) (problem : Problem) (run : Run)
     (has : HasSearched limits schedule problem run) where
@@ -57,6 +66,11 @@ module _ (limits : Limits) (schedule : List ℕ) (problem : Problem) (run : Run)
     };
     tidy = canonical-form-is-its-own run.plan;
   }
+
+  pub records-fit : All (λ entry. fits (length problem.orders) entry ≡ true) records
+  records-fit =
+      All-from_recursion (λ entry. fits (length problem.orders) entry ≡ true) records
+      (each-joined (λ entry. fits (length problem.orders) entry ≡ true) (records_of run) has.fit)
 
   -- ---- a path is left
 

@@ -1,13 +1,13 @@
 -- What a replay leaves of a problem's tree. It goes by ranked orders and a table of charges; as
 -- these are the problem's, all is said of the problem.
-use Rattle.std.proofs.Common.{◌≡◌, ℕ, ◌≤◌, List, true, length, ap, ◌∙◌, map, subst, sym, arith}
+use Rattle.std.proofs.Common.{◌≡◌, ℕ, ◌≤◌, List, true, length, ap, ◌∙◌, map, subst, arith}
 use Rattle.mill_model.specs.Best.{IsStartOf}
 use Rattle.mill_model.specs.Charges.{ChargeTable, charge_of}
 use Rattle.mill_model.specs.Conserved.{joined, IsConserved}
 use Rattle.mill_model.specs.Instance.{Problem, mill_of, loss_charge}
 use Rattle.mill_model.specs.Log.{Task, sound}
 use Rattle.mill_model.specs.Pairs.{IsPossibleStart, IsStartBound}
-use Rattle.mill_model.specs.Plan.{loss, IsPlanWithLoss}
+use Rattle.mill_model.specs.Plan.{IsPlanWithLoss}
 use Rattle.mill_model.specs.Slab.{Mill}
 use Rattle.mill_model.specs.Thrift.{AreThrifty}
 use Rattle.mill_model.specs.declared.limits.Limits.{Limits}
@@ -21,10 +21,11 @@ use Rattle.instance_facts.proofs.Charged.{table-is-charge}
 use Rattle.order_symmetry.specs.Ranked.{RankedOrders, IsRankOf, orders_of}
 use Rattle.refute_log.specs.Fits.{fits}
 use Rattle.refute_log.specs.declared.piece.Run.{Run}
+use Rattle.search_step.specs.Honest.{IsKept}
 use Rattle.search_step.specs.Promise.{records_of, IsRun, IsThrifty}
 use Rattle.search_step.specs.Steps.{task_at}
 use Rattle.core_replay.specs.Replayed.{IsLeftBy}
-use Rattle.solve_answer.specs.Searched.{loss_task, OfStartBound, MayBegin, IsOfACoreRun}
+use Rattle.solve_answer.specs.Searched.{loss_task, OfStartBound, IsOfACoreRun}
 use Rattle.solve_answer.specs.Search.{HasSearched}
 use Rattle.solve_answer.proofs.Thrift.{thrifty-more}
 
@@ -46,7 +47,7 @@ task-is problem ranked charges rank table =
 
 module _ (limits : Limits) (schedule : List ℕ) (problem : Problem) (ranked : RankedOrders)
     (charges : ChargeTable) (start : Start) (run : Run) (rank : IsRankOf problem ranked)
-    (table : AreCharges problem charges) (begins : IsStartOf problem (charge_of charges) start)
+    (table : AreCharges problem charges) (begins : IsKept ranked charges start)
     (possible : IsPossibleStart (mill_of problem) (loss_charge problem.sizes) problem.orders
     limits.moves start.plan) (is : IsRun ranked charges start.loss limits.nodes run)
     (thrifty : IsThrifty ranked charges start.loss run)
@@ -63,9 +64,19 @@ module _ (limits : Limits) (schedule : List ℕ) (problem : Problem) (ranked : R
       start-bound (mill_of problem) (loss_charge problem.sizes) problem.orders limits.moves
       start.plan possible
 
+  -- a plan that is legal by the rank and the table is so by the problem
+  of-problem : (plan : List ℕ) (lost : ℕ) →
+      IsPlanWithLoss ranked.mill (charge_of charges) problem.orders plan lost →
+      IsPlanWithLoss (mill_of problem) (loss_charge problem.sizes) problem.orders plan lost
+  of-problem plan lost by-rank =
+      subst (λ charge. IsPlanWithLoss (mill_of problem) charge problem.orders plan lost)
+      same-charge
+      (subst (λ mill. IsPlanWithLoss mill (charge_of charges) problem.orders plan lost) rank.mill
+      by-rank)
+
   -- the start loses no more than the bound, as it is possible
   start-legal : IsStartOf problem (loss_charge problem.sizes) start
-  start-legal = subst (λ charge. IsStartOf problem charge start) same-charge begins
+  start-legal = of-problem start.plan start.loss (begins.plan problem.orders rank.placed)
 
   start-within : start.loss ≤ bound.0
   start-within =
@@ -93,14 +104,7 @@ module _ (limits : Limits) (schedule : List ℕ) (problem : Problem) (ranked : R
 
   run-plan : IsStartOf problem (loss_charge problem.sizes)
       (record { plan = run.plan; loss = run.loss })
-  run-plan =
-      let by-rank = is.plan problem.orders rank.placed in
-      let by-mill : IsPlanWithLoss (mill_of problem) (charge_of charges) problem.orders run.plan
-      run.loss =
-      subst (λ mill. IsPlanWithLoss mill (charge_of charges) problem.orders run.plan run.loss)
-      rank.mill by-rank in
-      subst (λ charge. IsPlanWithLoss (mill_of problem) charge problem.orders run.plan run.loss)
-      same-charge by-mill
+  run-plan = of-problem run.plan run.loss (is.plan problem.orders rank.placed)
 
   pub has-searched : HasSearched limits schedule problem run
   has-searched = record {

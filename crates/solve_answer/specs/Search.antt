@@ -2,20 +2,19 @@
 use Rattle.std.specs.Prelude.{ℕ, ◌≡◌, ◌≢◌, ◌<◌, ◌≤◌, Bool, true, false, min, List, [], length}
 use Rattle.std.specs.Prelude.{Option, None}
 use Rattle.mill_model.specs.Best.{IsStartOf}
-use Rattle.mill_model.specs.Charges.{charge_of}
 use Rattle.mill_model.specs.Conserved.{joined, IsConserved}
 use Rattle.mill_model.specs.Instance.{Problem, mill_of, loss_charge}
 use Rattle.mill_model.specs.Log.{sound}
 use Rattle.mill_model.specs.Pairs.{IsPossibleStart}
 use Rattle.mill_model.specs.Thrift.{AreThrifty}
 use Rattle.mill_model.specs.declared.limits.Limits.{Limits}
-use Rattle.mill_model.specs.declared.plan.Start.{Start}
 use Rattle.mill_laws.specs.RunLaws.{EachRecord}
 use Rattle.loss_table.specs.Charges.{AreCharges}
 use Rattle.order_symmetry.specs.Ranked.{IsRankOf}
 use Rattle.refute_log.specs.Fits.{fits}
 use Rattle.refute_log.specs.Logged.{Logged}
 use Rattle.refute_log.specs.declared.piece.Run.{Run}
+use Rattle.search_step.specs.Honest.{IsKept}
 use Rattle.search_step.specs.Promise.{records_of}
 use Rattle.solve_answer.specs.Searched.{loss_task, OfStartBound, IsOfACoreRun}
 use Rattle.solve_answer.specs.Solved.{HasRefutation}
@@ -25,7 +24,7 @@ use Rattle.solve_answer.specs.declared.start.Beginning.{Beginning}
 pub record IsBeginning (problem : Problem) (moves : ℕ) (beginning : Beginning) : Type 0 where
   pub charged : AreCharges problem beginning.charges
   pub ranked : IsRankOf problem beginning.ranked
-  pub begins : IsStartOf problem (charge_of beginning.charges) beginning.start
+  pub begins : IsKept beginning.ranked beginning.charges beginning.start
   pub possible : IsPossibleStart (mill_of problem) (loss_charge problem.sizes) problem.orders moves
       beginning.start.plan
 

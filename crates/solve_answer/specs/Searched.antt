@@ -11,7 +11,6 @@ use Rattle.mill_model.specs.Thrift.{AreThrifty}
 use Rattle.mill_model.specs.Tree.{canonical}
 use Rattle.mill_model.specs.declared.closing.Entry.{Entry}
 use Rattle.mill_model.specs.declared.limits.Limits.{Limits}
-use Rattle.mill_model.specs.declared.plan.Start.{Start}
 use Rattle.mill_laws.specs.RunLaws.{EachRecord}
 use Rattle.loss_table.specs.Charges.{AreCharges}
 use Rattle.order_symmetry.specs.Ranked.{RankedOrders, IsRankOf}

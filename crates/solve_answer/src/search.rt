@@ -1,8 +1,9 @@
-ghost use Rattle.std.specs.Prelude.{◌≡◌, ◌<◌, ◌≤◌, List, IfOk, length};
+ghost use Rattle.std.specs.Prelude.{◌≡◌, ◌<◌, ◌≤◌, None, IfOk};
 ghost use Rattle.std.specs.List.{AllByRecursion};
 ghost use Rattle.answer_text.specs.Text.{Fits, most_orders};
+ghost use Rattle.answer_text.specs.declared.answer.Answer.TheVariants.{Optimal};
 ghost use Rattle.mill_model.specs.Heavy.{NoneHeavy};
-ghost use Rattle.mill_model.specs.Instance.{IsInstance, largest};
+ghost use Rattle.mill_model.specs.Instance.{largest};
 ghost use Rattle.mill_model.specs.declared.limits.TheConstants.{MAX_NODES};
 ghost use Rattle.solve_answer.specs.Search.{HasLogAsAsked, HasSearched};
 ghost use Rattle.solve_answer.specs.Solved.{IsProved, IsSolved, IsTold, WhereOptimal};
@@ -11,9 +12,9 @@ use crate::start::beginning_of;
 use answer_text::Answer;
 use core_replay::replay;
 use instance_facts::first_heavy;
-use mill_model::{Instance, Limits, OutOfMemory};
+use mill_model::{Instance, Limits, OutOfMemory, Plan};
 use piece_merge::merge;
-use refute_log::Run;
+use refute_log::{Log, Run};
 use reply_text::Solution;
 use std::alloc::Global;
 
@@ -83,20 +84,25 @@ fn solution_of(
             run: Some(run),
         });
     }
-    let refutation = if with_log {
-        let orders = instance.orders().len() as u16;
-        Some(merge(alloc, orders, run.pieces)?)
-    } else {
-        None
-    };
-    Ok(Solution {
+    if !with_log {
+        return Ok(optimal(loss, plan, None));
+    }
+    let log = merge(alloc, instance.orders().len() as u16, run.pieces)?;
+    Ok(optimal(loss, plan, Some(log)))
+}
+
+// A best plan is answered, with its log if there is one.
+fn optimal(loss: u64, plan: Plan, refutation: Option<Log>) -> Solution
+    ensures { result ≡ record { answer = Optimal loss plan refutation; run = None } }
+{
+    Solution {
         answer: Answer::Optimal {
             loss,
             plan,
             refutation,
         },
         run: None,
-    })
+    }
 }
 
 // The run that searches an instance's tree.

@@ -3,6 +3,7 @@ pub mod Input
 pub mod Reply
 pub mod Solve
 pub mod Prove
+pub mod Replay
 pub mod Check
 pub mod Verify
 pub mod Served

@@ -21,7 +21,8 @@ fn answered(
     words.push(String::from_str(alloc, colours)?)?;
     let mut source = MemSource::new(alloc, input, 4096, &[])?;
     let mut sink = MemSink::new(alloc, 4096, &[])?;
-    let status = run_plain(alloc, &words, &mut source, &mut sink);
+    let mut kept = None;
+    let status = run_plain(alloc, &words, &mut source, &mut sink, &mut kept);
     Ok((status, sink.bytes().to_vec(alloc)?))
 }
 

@@ -1,15 +1,18 @@
 -- What the parts of the call give, put together: an output that is right, that every right one
 -- agrees with it, and the cause of each failure.
-use Rattle.std.proofs.Common.{[], ◌∙◌, refl, sym, subst}
+use Rattle.std.proofs.Common.{◌≢◌, [], ◌∙◌, refl, sym, subst, arith}
+use Rattle.std.specs.Prelude.{IsSome}
 use Rattle.std.proofs.lemmas.List.{append-nil}
 use Rattle.std.specs.Io.KnownBytes.{Appends}
 use Rattle.mill_io.specs.Bytes.{AppendsFront}
 use Rattle.job_words.specs.Words.{texts}
+use Rattle.reply_text.specs.declared.status.TheConstants.{WRITE_FAULT}
 use Rattle.slab_top.specs.Served.{WrongWords, Answered}
 use Rattle.slab_top.specs.Agree.{MayEndWith}
 use Rattle.slab_top.specs.Run.{IsOwnStatus}
 use Rattle.slab_top.proofs.Replying.{agree-status, outcome-own}
 use Rattle.slab_top.proofs.Rights.{right-agree, enough-served, ended-for, wrong-agree, unread-for}
+use Rattle.slab_top.proofs.Rights.{served-run, none-kept}
 use Rattle.slab_top.proofs.Given.{served-whole-of, served-none, enough-given}
 use Rattle.slab_top.proofs.run.run_plain.Goals as goal
 
@@ -27,7 +30,27 @@ returns-in-Ok-reply-clause-answered g c whole = (
   (c.in-Ok.job, c.in-Ok.ensures.job, c.in-Ok-outcome_of.ensures.served),
   c.write_out.ensures.status whole.written ∙ c.in-Ok-reply.ensures.status,
   subst (Appends _ _) c.in-Ok-reply.ensures.text (c.write_out.ensures.whole whole.written),
+  c.run_behind.ensures.written whole.written,
 )
+
+-- with the run behind it where it is feasible,
+
+pub returns-in-Ok-reply-clause-kept : goal.returns-in-Ok-reply-clause-kept
+returns-in-Ok-reply-clause-kept g c feasible =
+    let outcome = c.in-Ok-outcome_of.outcome in
+    let hands = served-run c.in-Ok.job _ outcome c.in-Ok-outcome_of.ensures.served in
+    let written : c.write_out.result ≢ WRITE_FAULT = λ failed. omega (arith, feasible, failed) in
+    let status = c.write_out.ensures.status written ∙ c.in-Ok-reply.ensures.status in
+    subst IsSome (sym (c.run_behind.ensures.written written)) (hands.feasible (sym status
+    ∙ feasible))
+
+pub returns-in-Ok-reply-clause-none_kept : goal.returns-in-Ok-reply-clause-none_kept
+returns-in-Ok-reply-clause-none_kept g c =
+    let outcome = c.in-Ok-outcome_of.outcome in
+    none-kept outcome c.write_out.result c.run_behind.result
+    (served-run c.in-Ok.job _ outcome c.in-Ok-outcome_of.ensures.served)
+    (λ written. c.write_out.ensures.status written ∙ c.in-Ok-reply.ensures.status)
+    c.run_behind.ensures.written c.run_behind.ensures.failed
 
 pub returns-in-Ok-reply-clause-front : goal.returns-in-Ok-reply-clause-front
 returns-in-Ok-reply-clause-front g c failed = (
@@ -78,6 +101,7 @@ returns-in-Ok-write_usage-clause-answered g c whole = (
   λ job asked. let error = c.in_default.ensures.asked job asked in absurd (cc),
   refl,
   c.in-Ok-write_usage.ensures.ok,
+  refl,
 )
 
 pub returns-in-Ok-write_usage-clause-told : goal.returns-in-Ok-write_usage-clause-told
@@ -118,6 +142,7 @@ returns-in-Ok-reply-clause-given g c whole =
           answered,
       c.write_out.ensures.status whole.written ∙ c.in-Ok-reply.ensures.status,
       subst (Appends _ _) c.in-Ok-reply.ensures.text (c.write_out.ensures.whole whole.written),
+      c.run_behind.ensures.written whole.written,
     )
 
 pub returns-in-Ok-reply-clause-given_front : goal.returns-in-Ok-reply-clause-given_front
@@ -150,6 +175,7 @@ returns-in-Ok-write_usage-clause-given g c whole = (
       (λ job asked. let error = c.in_default.ensures.asked job asked in absurd (cc)),
   refl,
   c.in-Ok-write_usage.ensures.ok,
+  refl,
 )
 
 pub returns-in-Err-clause-given_front : goal.returns-in-Err-clause-given_front

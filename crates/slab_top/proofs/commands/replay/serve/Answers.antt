@@ -1,0 +1,13 @@
+-- The schedule that was read names workers of the job alone.
+use Rattle.std.proofs.Common.{refl, inr}
+use Rattle.job_words.specs.declared.option.Setting.TheVariants.{Workers, Nodes}
+use Rattle.slab_top.proofs.commands.replay.serve.Goals as goal
+
+pub prove-requires-clause-some : goal.prove-requires-clause-some
+prove-requires-clause-some c = (c.requires.in_range Workers).0
+
+pub prove-requires-clause-few : goal.prove-requires-clause-few
+prove-requires-clause-few c = (c.requires.in_range Workers).1
+
+pub prove-requires-clause-nodes : goal.prove-requires-clause-nodes
+prove-requires-clause-nodes c = (c.requires.in_range Nodes).1

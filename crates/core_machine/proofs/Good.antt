@@ -18,7 +18,7 @@ use Rattle.search_step.specs.declared.event.Event.{Event}
 use Rattle.search_step.specs.declared.event.Event.TheVariants.{Took, Stole, Pushed, Refused}
 use Rattle.search_step.specs.declared.event.Event.TheVariants.{Drew as DrewEvent, Looked, Published}
 use Rattle.search_step.specs.declared.event.Event.TheVariants.{Stopping, Stood}
-use Rattle.search_step.proofs.Honesty.{steps-stay-honest}
+use Rattle.search_step.proofs.StaysHonest.{steps-stay-honest}
 use Rattle.core_machine.proofs.Lists.{sum-set}
 use Rattle.core_machine.proofs.Steady.{each-with, event-is-step, event-keeps}
 use Rattle.core_machine.specs.Calls.{called}

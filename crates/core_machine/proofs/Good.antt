@@ -158,7 +158,7 @@ module _ (ranked : RankedOrders) (charges : ChargeTable) (budget : ℕ)
         KeepsHonest ranked charges (worker c i) (step ranked charges budget c i).1.0
     event-honest =
         steps-stay-honest (called budget i (any_busy c.workers)) ranked charges (length c.workers)
-        i w c.shared s' (steady.safe i l) fit (step ranked charges budget c i).1.1 w'
+        i w c.shared s' l steady.few fit (steady.safe i l) (step ranked charges budget c i).1.1 w'
         (event-is-step ranked charges budget fit.of_instance c i l steady)
 
     pub good-event : (start before : ℕ) (owed : List (List ℕ)) →

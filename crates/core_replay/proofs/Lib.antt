@@ -1,0 +1,5 @@
+mod Members
+mod Turns
+mod InTree
+mod Bests
+mod Runs

@@ -2,7 +2,8 @@
 -- of a path that is recorded as split, which is shorter.
 use Rattle.std.proofs.Common.{ℕ, zero, suc, ◌+◌, ◌<◌, ◌≤◌, ◌≡◌, ◌⊎◌, inl, inr, Bool, true, false, cond}
 use Rattle.std.proofs.Common.{List, [], ◌∷◌, ◌++◌, length, map, filter, refl, sym, ap, ◌∙◌, subst}
-use Rattle.std.proofs.Common.{arith, le-leb, leb, length-append}
+use Rattle.std.proofs.Common.{arith}
+use Rattle.std.proofs.lemmas.Bool.{cases_lt}
 use Rattle.std.specs.List.{AllByRecursion}
 use Rattle.list_laws.specs.Sets.{same_list, below, times, SameTimes}
 use Rattle.list_laws.proofs.Among.{each-weaker}
@@ -25,11 +26,10 @@ use Rattle.search_step.proofs.Branches.{children-in-tree}
 counted-holds : (P : List ℕ → Type 0) (x : List ℕ) (xs : List (List ℕ)) → AllByRecursion P xs →
     0 < times same_list x xs → P x
 counted-holds P x [] a l = absurd (omega arith)
-counted-holds P x (y ∷ xs) a l = go (either (same_list x y))
-  where
-    go : (same_list x y ≡ true) ⊎ (same_list x y ≡ false) → P x
-    go (inl e) = subst P (sym (same_list-eq x y e)) a.0
-    go (inr e) = counted-holds P x xs a.1 (rw e at l)
+counted-holds P x (y ∷ xs) a l = elim (either (same_list x y)) [
+  | inl e ↦ subst P (sym (same_list-eq x y e)) a.0
+  | inr e ↦ counted-holds P x xs a.1 (rw e at l)
+]
 
 -- and each of a list does
 each-counted : (P : List ℕ → Type 0) (xs : List (List ℕ)) →
@@ -65,37 +65,36 @@ record ParentIn (task : Task) (log : List Entry) (x : List ℕ) : Type 0 where
   there : 0 < times same_list parent (recorded log)
   child : 0 < times same_list x (children task.mill task.ranked parent)
 
+at-later : (task : Task) (entry : Entry) (log : List Entry) (x : List ℕ) → ParentIn task log x →
+    ParentIn task (entry ∷ log) x
+at-later task entry log x p = record {
+  parent = p.parent;
+  there = omega (arith, p.there);
+  child = p.child;
+}
+
+at-first : (task : Task) (entry : Entry) (log : List Entry) (x : List ℕ) → (c : Closing) →
+    0 < times same_list x (left_open task entry.path c) → ParentIn task (entry ∷ log) x
+at-first task entry log x Split l = record {
+  parent = entry.path;
+  there = rw (same_list-refl entry.path) (omega arith);
+  child = l;
+}
+at-first task entry log x Leaf l = absurd (omega arith)
+at-first task entry log x (Priced prices) l = absurd (omega arith)
+at-first task entry log x (Dominated other) l = absurd (omega arith)
+
 parent-in : (task : Task) (log : List Entry) (x : List ℕ) →
     0 < times same_list x (split_children task log) → ParentIn task log x
 parent-in task [] x l = absurd (omega arith)
-parent-in task (entry ∷ log) x l = at entry.closing (omega (
-    arith, l,
-    times-append same_list x (left_open task entry.path entry.closing) (split_children task log)))
-  where
-    later : ParentIn task log x → ParentIn task (entry ∷ log) x
-    later p = record {
-      parent = p.parent;
-      there = omega (arith, p.there);
-      child = p.child;
-    }
-
-    split : (n : ℕ) → times same_list x (children task.mill task.ranked entry.path) ≡ n →
-        0 < n + times same_list x (split_children task log) → ParentIn task (entry ∷ log) x
-    split zero e k = later (parent-in task log x k)
-    split (suc n) e k = record {
-      parent = entry.path;
-      there = rw (same_list-refl entry.path) (omega arith);
-      child = omega (arith, e);
-    }
-
-    at : (c : Closing) →
-        0 < times same_list x (left_open task entry.path c)
-        + times same_list x (split_children task log) →
-        ParentIn task (entry ∷ log) x
-    at Split k = split (times same_list x (children task.mill task.ranked entry.path)) refl k
-    at Leaf k = later (parent-in task log x k)
-    at (Priced prices) k = later (parent-in task log x k)
-    at (Dominated other) k = later (parent-in task log x k)
+parent-in task (entry ∷ log) x l =
+    elim (cases_lt 0 (times same_list x (left_open task entry.path entry.closing))) [
+      | inl here ↦ at-first task entry log x entry.closing here
+      | inr none ↦ at-later task entry log x (parent-in task log x (omega (
+        arith, l, none,
+        times-append same_list x (left_open task entry.path entry.closing)
+            (split_children task log))))
+    ]
 
 module _ (ranked : RankedOrders) (charges : ChargeTable) (log : List Entry)
     (unclosed : List (List ℕ))

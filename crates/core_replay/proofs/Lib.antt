@@ -1,5 +1,8 @@
 mod Members
-mod Turns
+mod Runs
+mod HandTurns
+mod Ready
 mod InTree
 mod Bests
-mod Runs
+mod Fits
+mod Joined

@@ -6,7 +6,7 @@ use Rattle.std.specs.List.{list_any}
 use Rattle.mill_model.specs.Charges.{ChargeTable}
 use Rattle.order_symmetry.specs.Ranked.{RankedOrders}
 use Rattle.search_step.specs.Parts.{Parts}
-use Rattle.search_step.specs.Steps.{HeldIn, WaitingIn, IsSafe}
+use Rattle.search_step.specs.Steps.{HeldIn, WaitingIn}
 use Rattle.search_step.specs.Worker.{WorkerParts}
 use Rattle.search_step.specs.declared.parts.Phase.{Phase}
 use Rattle.search_step.specs.declared.parts.Phase.TheVariants.{Resting, Taking, Stealing, Holding}
@@ -93,23 +93,13 @@ module _ (w : Parts) where
   busy-in Bounding h e = holding h.0 h.1
   busy-in ClosingNow h e = holding h.0 h.1
 
-pub busy-alike : (ranked : RankedOrders) (charges : ChargeTable) (workers : ℕ)
-    (ws : List WorkerParts) →
-    ((i : ℕ) (w : WorkerParts) → i < length ws → IsSafe ranked charges workers i (get_or ws i w).parts) →
+-- so some worker has a path where one of them is busy
+pub busy-alike : (ws : List WorkerParts) →
+    ((i : ℕ) → i < length (parts_of ws) →
+    has_path (get_or (parts_of ws) i no_worker).phase
+    ≡ is_busy (get_or (parts_of ws) i no_worker)) →
     list_any (λ (w : WorkerParts). has_path w.parts.phase) ws ≡ any_busy (parts_of ws)
-busy-alike ranked charges workers ws safe = go ws 0 (λ i w l. rw zero-plus (safe i w l))
-  where
-    zero-plus : (i : ℕ) → 0 + i ≡ i
-    zero-plus i = omega arith
-
-    go : (vs : List WorkerParts) (n : ℕ) →
-        ((i : ℕ) (w : WorkerParts) → i < length vs →
-        IsSafe ranked charges workers (n + i) (get_or vs i w).parts) →
-        list_any (λ (w : WorkerParts). has_path w.parts.phase) vs ≡ any_busy (parts_of vs)
-    go [] n s = refl
-    go (v ∷ vs) n s =
-        let here = s 0 v (omega arith) in
-        let e : has_path v.parts.phase ≡ is_busy v.parts =
-        busy-in v.parts v.parts.phase here.held_in here.waiting_in in
-        rw (e, go vs (n + 1) (λ i w l. (let q : (n + 1) + i ≡ n + suc i = omega arith in
-        rw q (s (suc i) w (omega arith))))) refl
+busy-alike [] each = refl
+busy-alike (w ∷ ws) each =
+    let here : has_path w.parts.phase ≡ is_busy w.parts = each 0 (omega arith) in
+    rw (here, busy-alike ws (λ i l. each (suc i) (omega arith))) refl

@@ -64,7 +64,7 @@ module _ (ranked : RankedOrders) (charges : ChargeTable) (budget : ℕ) where
   pub round-goes-on : (first c d : Core) (stopped stopped' : Bool) (k : ℕ) (turn : Turn) →
       (c, stopped) ≡ round ranked charges budget first k → Goes-on turn →
       Goes turn (event ranked charges budget c k) d →
-      stopped' ≡ (stopped && is_stopped ranked charges budget turn) →
+      stopped' ≡ (stopped && is_stopped turn) →
       (d, stopped') ≡ round ranked charges budget first (k + 1)
   round-goes-on first c d stopped stopped' k turn so_far g goes e =
       let s : k + 1 ≡ suc k = omega arith in
@@ -72,11 +72,11 @@ module _ (ranked : RankedOrders) (charges : ChargeTable) (budget : ℕ) where
       let r : round ranked charges budget first (suc k) ≡ (d, stopped') =
       subst (λ (p : Core × Bool). ◌≡◌ {A = Core × Bool}
       ((event ranked charges budget p.0 k).0,
-      p.1 && is_stopped ranked charges budget (event ranked charges budget p.0 k).1)
+      p.1 && is_stopped (event ranked charges budget p.0 k).1)
       (d, stopped')) so_far
-      (ap (λ (v : Core). (v, stopped && is_stopped ranked charges budget
+      (ap (λ (v : Core). (v, stopped && is_stopped
       (event ranked charges budget c k).1)) (sym h.0)
-      ∙ ap (λ (v : Turn). (d, stopped && is_stopped ranked charges budget v)) (sym h.1)
+      ∙ ap (λ (v : Turn). (d, stopped && is_stopped v)) (sym h.1)
       ∙ ap (λ (v : Bool). (d, v)) (sym e)) in
       sym r ∙ ap (round ranked charges budget first) (sym s)
 

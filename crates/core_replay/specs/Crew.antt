@@ -1,8 +1,9 @@
 -- Workers that take turns over one plain hand.
-use Rattle.std.specs.Prelude.{ℕ, suc, ◌≡◌, Bool, true, false, List, [], ◌∷◌, map, length}
+use Rattle.std.specs.Prelude.{ℕ, suc, ◌≡◌, ◌≤◌, Bool, true, false, List, [], ◌∷◌, map}
+use Rattle.std.specs.Prelude.{length}
 use Rattle.mill_model.specs.Charges.{ChargeTable}
 use Rattle.mill_model.specs.declared.closing.Entry.{Entry}
-use Rattle.order_symmetry.specs.Ranked.{RankedOrders}
+use Rattle.order_symmetry.specs.Ranked.{RankedOrders, IsRanked}
 use Rattle.refute_log.specs.Pieces.{Pieced}
 use Rattle.search_step.specs.Parts.{Parts}
 use Rattle.search_step.specs.Worker.{WorkerParts}
@@ -15,6 +16,7 @@ use Rattle.search_step.specs.declared.parts.Turn.{Turn}
 use Rattle.search_step.specs.declared.parts.Turn.TheVariants.{Moved, Drew, Idle, Stopped}
 use Rattle.search_step.specs.declared.parts.Turn.TheVariants.{OutOfMemory}
 use Rattle.core_machine.specs.Core.{Core, first_state, with_pushed}
+use Rattle.core_machine.specs.Steady.{IsSteady}
 
 -- what they go by, the budget of tickets, and the state of their machine
 pub record CrewState : Type 0 where
@@ -29,10 +31,10 @@ parts_of = map (λ w. w.parts)
 -- a worker that goes by these orders and charges and has this number among so many
 pub record IsMember (ranked : RankedOrders) (charges : ChargeTable) (workers number : ℕ)
     (w : WorkerParts) : Type 0 where
-  pub ranked : w.ranked ≡ ranked
-  pub charges : w.charges ≡ charges
-  pub workers : w.workers ≡ workers
-  pub number : w.number ≡ number
+  pub orders : w.ranked ≡ ranked
+  pub table : w.charges ≡ charges
+  pub among : w.workers ≡ workers
+  pub who : w.number ≡ number
 
 -- workers that go by the same, with the numbers from one on
 abbrev pub AreMembers : RankedOrders → ChargeTable → ℕ → ℕ → List WorkerParts → Type 0
@@ -81,6 +83,12 @@ Goes Drew next c = (c ≡ next.0) × (Drew ≡ next.1)
 Goes Idle next c = (c ≡ next.0) × (Idle ≡ next.1)
 Goes Stopped next c = (c ≡ next.0) × (Stopped ≡ next.1)
 Goes OutOfMemory next c = Unit {0}
+
+-- workers that may make turns
+pub record IsReady (c : CrewState) : Type 0 where
+  pub ranks : IsRanked c.ranked
+  pub nodes : c.budget ≤ 1000000000
+  pub steady : IsSteady c.ranked c.charges c.budget c.core
 
 -- what turns don't change
 pub record SameRun (before after : CrewState) : Type 0 where

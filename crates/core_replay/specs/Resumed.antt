@@ -1,24 +1,13 @@
 -- What further workers leave of a run that they went on from.
-use Rattle.std.specs.Prelude.{ℕ, ◌≡◌, cond, ltb, List, [], ◌∷◌, ◌++◌, length, Option, Some, None}
+use Rattle.std.specs.Prelude.{ℕ, ◌≡◌, List, ◌++◌, length}
 use Rattle.mill_model.specs.Charges.{ChargeTable}
-use Rattle.mill_model.specs.declared.plan.Start.{Start}
 use Rattle.order_symmetry.specs.Ranked.{RankedOrders}
 use Rattle.refute_log.specs.declared.piece.Run.{Run}
-use Rattle.search_step.specs.Parts.{Parts}
 use Rattle.search_step.specs.Promise.{records_of}
 use Rattle.core_machine.specs.Core.{Core, Rounds, after_schedule, first_state}
 use Rattle.core_machine.specs.Core.{pieces_of, unclosed_of}
+use Rattle.core_machine.specs.Kept.{best_of}
 use Rattle.core_replay.specs.Replayed.{start_of}
-
--- of two plans the one that loses less, the first where both lose as much
-abbrev pub better : Start → Option Start → Start
-better start None = start
-better start (Some found) = cond (ltb found.loss start.loss) found start
-
--- of a plan and those that workers keep, one that loses least
-abbrev pub best_among : Start → List Parts → Start
-best_among start [] = start
-best_among start (w ∷ ws) = best_among (better start w.best) ws
 
 -- With the unclosed paths of the given run in deque 0, its loss and its number of tickets, workers
 -- made the events of a schedule, then rounds to their end. Its pieces come first, then those of the
@@ -33,5 +22,5 @@ pub record IsResumed (ranked : RankedOrders) (charges : ChargeTable) (nodes work
       schedule) last
   pub pieces : records_of run ≡ records_of given ++ pieces_of last
   pub unclosed : run.unclosed.items ≡ unclosed_of last
-  pub best : start_of run ≡ best_among (start_of given) last.workers
+  pub best : start_of run ≡ best_of (start_of given) last.workers
   pub drawn : run.drawn ≡ last.shared.drawn

@@ -4,9 +4,9 @@ ghost use Rattle.order_symmetry.specs.Ranked.{orders_of};
 ghost use Rattle.search_step.specs.Promise.{records_of};
 ghost use Rattle.search_step.specs.Serving.{IsPathOf};
 ghost use Rattle.core_machine.specs.Core.{pieces_of, unclosed_by, unclosed_of};
+ghost use Rattle.core_machine.specs.Kept.{best_of, better_of};
 ghost use Rattle.core_replay.specs.Crew.{entries_of, new_crew, parts_of, with_given};
 ghost use Rattle.core_replay.specs.Replayed.{start_of};
-ghost use Rattle.core_replay.specs.Resumed.{best_among, better};
 
 use crate::plain_hand::PlainHand;
 use mill_model::{Charges, Limits, OutOfMemory, Path, Start};
@@ -94,7 +94,7 @@ impl<'a> Crew<'a> {
         ensures unclosed { IfOk result (λ run. run.unclosed.items
             ≡ unclosed_of self.entry.core) }
         ensures best { IfOk result (λ run. start_of run
-            ≡ best_among start self.entry.core.workers) }
+            ≡ best_of start self.entry.core.workers) }
         ensures drawn { IfOk result (λ run. run.drawn ≡ self.entry.core.shared.drawn) }
     {
         let mut unclosed = Vec::new(alloc);
@@ -120,10 +120,10 @@ fn end_all(
     start: Start,
 ) -> Result<Start, OutOfMemory>
     ensures pieces { OnOk result (entries_of pieces.new.items
-        ≡ entries_of pieces.old.items ++ map (λ w. w.parts.piece) workers.items) }
+        ≡ entries_of pieces.old.items ++ map (λ w. w.parts.piece) workers.entry.items) }
     ensures unclosed { OnOk result (unclosed.new.items
-        ≡ unclosed.old.items ++ flat_map (λ w. unclosed_by w.parts) workers.items) }
-    ensures best { IfOk result (λ best. best ≡ best_among start (parts_of workers.items)) }
+        ≡ unclosed.old.items ++ flat_map (λ w. unclosed_by w.parts) workers.entry.items) }
+    ensures best { IfOk result (λ best. best ≡ best_of start (parts_of workers.entry.items)) }
 {
     let mut best = start;
     for worker in workers {
@@ -133,14 +133,14 @@ fn end_all(
             unclosed.push(path)?;
         }
         unclosed.append(&mut end.waiting)?;
-        best = better(best, end.best);
+        best = better_of(best, end.best);
     }
     Ok(best)
 }
 
 // Of two plans the one that loses less.
-fn better(start: Start, found: Option<Start>) -> Start
-    ensures { result ≡ better start found }
+fn better_of(start: Start, found: Option<Start>) -> Start
+    ensures { result ≡ better_of start found }
 {
     match found {
         Some(found) if found.loss < start.loss => found,

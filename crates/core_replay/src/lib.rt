@@ -4,10 +4,10 @@
 
 mod crew;
 mod deques;
+mod going_on;
 mod plain_hand;
-mod replay;
-mod resume;
+mod replays;
 mod turns;
 
 pub use plain_hand::PlainHand;
-pub use replay::{finish, replay};
+pub use replays::{finish, replay};

@@ -1,8 +1,7 @@
 ghost use Rattle.std.specs.Prelude.{◌≡◌, ◌<◌, IfOk, length};
 ghost use Rattle.std.specs.List.{AllByRecursion, list_any};
 ghost use Rattle.core_machine.specs.Core.{Rounds, after_schedule, event, whole_round};
-ghost use Rattle.core_machine.specs.Steady.{IsSteady};
-ghost use Rattle.core_replay.specs.Crew.{Goes, SameRun, has_path};
+ghost use Rattle.core_replay.specs.Crew.{Goes, IsReady, SameRun, has_path};
 
 use crate::crew::Crew;
 use mill_model::OutOfMemory;
@@ -35,8 +34,7 @@ impl Crew<'_> {
     // One step of a worker.
     pub(crate) fn turn(&mut self, number: u16) -> Turn
         requires number { number < length self.old.core.workers }
-        requires steady { IsSteady self.old.ranked self.old.charges self.old.budget
-            self.old.core }
+        requires ready { IsReady self.old }
         ensures event { Goes result (event self.old.ranked self.old.charges self.old.budget
             self.old.core number) self.new.core }
         ensures same { SameRun self.old self.new }
@@ -50,15 +48,15 @@ impl Crew<'_> {
     pub(crate) fn follow(&mut self, schedule: &[u16]) -> Result<(), OutOfMemory>
         requires numbers { AllByRecursion (λ number. number < length self.old.core.workers)
             schedule.now }
-        requires steady { IsSteady self.old.ranked self.old.charges self.old.budget
-            self.old.core }
+        requires ready { IsReady self.old }
         ensures run { IfOk result (λ _. self.new.core ≡ after_schedule self.old.ranked
             self.old.charges self.old.budget self.old.core schedule.now) }
         ensures same { SameRun self.old self.new }
     {
         for &number in schedule {
-            if self.turn(number) == Turn::OutOfMemory {
-                return Err(OutOfMemory);
+            match self.turn(number) {
+                Turn::OutOfMemory => return Err(OutOfMemory),
+                Turn::Moved | Turn::Drew | Turn::Idle | Turn::Stopped => {}
             }
         }
         Ok(())
@@ -66,15 +64,14 @@ impl Crew<'_> {
 
     // One step of each worker, by number. It says whether each answered that it stopped.
     fn round(&mut self) -> Result<bool, OutOfMemory>
-        requires steady { IsSteady self.old.ranked self.old.charges self.old.budget
-            self.old.core }
+        requires ready { IsReady self.old }
         ensures round { IfOk result (λ stopped. (self.new.core, stopped)
             ≡ whole_round self.old.ranked self.old.charges self.old.budget self.old.core) }
         ensures same { SameRun self.old self.new }
     {
         let mut stopped = true;
-        for number in 0..self.workers.len() {
-            match self.turn(number as u16) {
+        for number in 0..self.hand.workers() {
+            match self.turn(number) {
                 Turn::OutOfMemory => return Err(OutOfMemory),
                 Turn::Moved | Turn::Drew | Turn::Idle => stopped = false,
                 Turn::Stopped => {}
@@ -85,8 +82,7 @@ impl Crew<'_> {
 
     // Rounds, until each worker answers in one that it stopped.
     pub(crate) fn run_out(&mut self) -> Result<(), OutOfMemory>
-        requires steady { IsSteady self.old.ranked self.old.charges self.old.budget
-            self.old.core }
+        requires ready { IsReady self.old }
         ensures rounds { IfOk result (λ _. Rounds self.old.ranked self.old.charges
             self.old.budget self.old.core self.new.core) }
         ensures same { SameRun self.old self.new }

@@ -6,7 +6,7 @@ ghost use Rattle.search_step.specs.Honest.{IsKept};
 ghost use Rattle.search_step.specs.Promise.{IsRun, IsThrifty, EachSplitsAnew, records_of};
 ghost use Rattle.core_replay.specs.Replayed.{GoesOnFrom, IsLeftBy, IsResumable};
 
-use crate::resume::resume;
+use crate::going_on::resume;
 use mill_model::{Charges, Limits, OutOfMemory, Path, Start};
 use order_symmetry::Ranked;
 use refute_log::Run;

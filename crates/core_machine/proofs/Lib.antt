@@ -1,0 +1,12 @@
+pub mod Lists
+pub mod Keys
+pub mod Plans
+pub mod Closings
+pub mod Steps
+pub mod Steady
+pub mod Runs
+pub mod Work
+pub mod Falls
+pub mod Good
+pub mod Found
+pub mod Ends

@@ -10,3 +10,9 @@ pub mod Falls
 pub mod Good
 pub mod Found
 pub mod Ends
+pub mod Starts
+pub mod Last
+pub mod Joined
+pub mod Bests
+pub mod InTree
+pub mod Promise

@@ -23,7 +23,7 @@ use Rattle.search_step.proofs.Lengths.{tree-fits-path}
 use Rattle.core_machine.proofs.Lists.{get-map}
 use Rattle.core_machine.specs.Places.{number_at, plan_at}
 
-get-below : (n k : ℕ) → k < n → get_or (below n) k 0 ≡ k
+pub get-below : (n k : ℕ) → k < n → get_or (below n) k 0 ≡ k
 get-below zero k l = absurd (omega arith)
 get-below (suc n) k l = elim (last-or-below k n l) [
   | inl e ↦ subst (λ m. get_or (below n ++ n ∷ []) m 0 ≡ m) (sym e)

@@ -11,7 +11,8 @@ use Rattle.search_step.specs.Steps.{task_at}
 use Rattle.search_step.specs.declared.parts.Phase.TheVariants.{Publishing}
 use Rattle.core_machine.specs.Core.{Core, worker}
 use Rattle.core_machine.specs.Counts.{sum_of, own_count, split_count, tickets_of}
-use Rattle.core_machine.specs.Steady.{EachWorker}
+use Rattle.core_machine.specs.Ends.{IsAtEnd}
+use Rattle.core_machine.specs.Steady.{EachWorker, IsSteady}
 
 -- Of a run that began with a loss, with some paths to close and so many records before. The paths of
 -- the workers and the deques are those to close and the children of the paths that the workers
@@ -52,3 +53,16 @@ better_of start (Some other) = cond (ltb other.loss start.loss) other start
 abbrev pub best_of : Start → List Parts → Start
 best_of start [] = start
 best_of start (w ∷ ws) = best_of (better_of start w.best) ws
+
+-- all of it
+pub record Keeps (ranked : RankedOrders) (charges : ChargeTable) (start budget before : ℕ)
+    (owed : List (List ℕ)) (c : Core) : Type 0 where
+  pub steady : IsSteady ranked charges budget c
+  pub good : IsGood ranked charges start budget before owed c
+  pub found : IsFound start c
+
+-- the last state of a run
+pub record IsLast (ranked : RankedOrders) (charges : ChargeTable) (start budget before : ℕ)
+    (owed : List (List ℕ)) (c : Core) : Type 0 where
+  pub kept : Keeps ranked charges start budget before owed c
+  pub ends : IsAtEnd budget c

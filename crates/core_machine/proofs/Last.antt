@@ -1,8 +1,8 @@
 -- The last state of a run, from its first.
-use Rattle.std.proofs.Common.{ℕ, ◌<◌, ◌≤◌, ◌≡◌, min, List, length, refl, subst, sym}
+use Rattle.std.proofs.Common.{ℕ, ◌<◌, ◌≤◌, ◌≡◌, min, List, length, refl, subst, sym, arith}
 use Rattle.std.specs.List.{AllByRecursion}
 use Rattle.mill_model.specs.Charges.{ChargeTable}
-use Rattle.order_symmetry.specs.Ranked.{RankedOrders}
+use Rattle.order_symmetry.specs.Ranked.{RankedOrders, IsRanked}
 use Rattle.search_step.specs.Serving.{IsPathOf}
 use Rattle.search_step.specs.Steps.{FitsMill}
 use Rattle.core_machine.proofs.Ends.{rounds-end}
@@ -10,9 +10,10 @@ use Rattle.core_machine.proofs.Found.{found-event}
 use Rattle.core_machine.proofs.Good.{good-event}
 use Rattle.core_machine.proofs.Runs.{rounds-keep, schedule-keeps}
 use Rattle.core_machine.proofs.Starts.{found-first, good-first, steady-first, workers-count}
-use Rattle.core_machine.proofs.Steady.{steady-event}
+use Rattle.core_machine.proofs.Steady.{event-draws, steady-event}
 use Rattle.core_machine.specs.Core.{Core, Rounds, after_schedule, event, first_state}
 use Rattle.core_machine.specs.Kept.{IsLast, Keeps}
+use Rattle.core_machine.specs.Steady.{IsSteady}
 
 module _ (ranked : RankedOrders) (charges : ChargeTable) (budget : ℕ)
     (fit : FitsMill ranked charges) (start before : ℕ) (owed : List (List ℕ)) where
@@ -63,3 +64,25 @@ module _ (ranked : RankedOrders) (charges : ChargeTable) (budget : ℕ)
       (subst (λ n. AllByRecursion (λ i. i < n) schedule)
       (sym (workers-count ranked charges workers (length ranked.placed) start)) numbers)
       (first-keeps workers drawn some few within count tree) rounds
+
+-- a run draws no fewer tickets than it began with
+pub run-draws : (ranked : RankedOrders) (charges : ChargeTable) (budget : ℕ) → IsRanked ranked →
+    (c d : Core) (schedule : List ℕ) → AllByRecursion (λ i. i < length c.workers) schedule →
+    IsSteady ranked charges budget c →
+    Rounds ranked charges budget (after_schedule ranked charges budget c schedule) d →
+    c.shared.drawn ≤ d.shared.drawn
+run-draws ranked charges budget ranks c d schedule numbers steady rounds =
+    (rounds-keep ranked charges budget More more-event
+    (after_schedule ranked charges budget c schedule) d rounds
+    (schedule-keeps ranked charges budget More more-event c schedule numbers
+    (steady, omega arith))).1
+  where
+    More : Core → Type 0
+    More m = IsSteady ranked charges budget m × (c.shared.drawn ≤ m.shared.drawn)
+
+    more-event : (m : Core) (i : ℕ) → i < length m.workers → More m →
+        More (event ranked charges budget m i).0
+    more-event m i l k = (
+      steady-event ranked charges budget ranks m i l k.0,
+      omega (arith, k.1, event-draws ranked charges budget ranks m i l k.0),
+    )

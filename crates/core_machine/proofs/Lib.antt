@@ -16,3 +16,4 @@ pub mod Joined
 pub mod Bests
 pub mod InTree
 pub mod Promise
+pub mod Rows

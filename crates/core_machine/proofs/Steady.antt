@@ -285,6 +285,10 @@ module _ (ranked : RankedOrders) (charges : ChargeTable) (budget : ℕ) where
           (worker c i) c.shared (step ranked charges budget c i).0 (steady.safe i l)
           (step ranked charges budget c i).1.1 (step ranked charges budget c i).1.0 event-is-step
 
+      pub event-draws : c.shared.drawn ≤ (event ranked charges budget c i).0.shared.drawn
+      event-draws =
+          (draws-at c i w steady.halted (steady.spent i l) (steady.ended i l) w.phase refl).more
+
       pub steady-event : Steady (event ranked charges budget c i).0
       steady-event =
           let d = draws-at c i w steady.halted (steady.spent i l) (steady.ended i l) w.phase refl
@@ -316,3 +320,17 @@ module _ (ranked : RankedOrders) (charges : ChargeTable) (budget : ℕ) where
                 let b : c.shared.drawn ≤ budget + sum_of spent_by c.workers = steady.drawn in
                 elim d.few [ inl f ↦ omega arith | inr f ↦ omega arith ]);
           }
+
+spent-few : (ws : List Parts) → sum_of spent_by ws ≤ length ws
+spent-few [] = omega arith
+spent-few (w ∷ ws) = omega (arith, spent-few ws, one (has_spent w.phase))
+  where
+    one : (b : Bool) → cond b 1 0 ≤ 1
+    one true = omega arith
+    one false = omega arith
+
+-- few tickets beyond the last are drawn
+pub drawn-few : (ranked : RankedOrders) (charges : ChargeTable) (budget : ℕ) (c : Core) →
+    IsSteady ranked charges budget c → c.shared.drawn ≤ budget + 64
+drawn-few ranked charges budget c steady =
+    omega (arith, steady.drawn, steady.few, spent-few c.workers)

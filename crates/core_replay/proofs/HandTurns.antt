@@ -24,9 +24,9 @@ use Rattle.core_machine.specs.Calls.{called}
 use Rattle.core_machine.specs.Core.{Core, Shared, any_busy, deque, event, no_worker, with_draw}
 use Rattle.core_machine.specs.Core.{step_in, with_worker, worker}
 use Rattle.core_machine.proofs.Steps.{step-made, steps-seen}
-use Rattle.core_replay.specs.Crew.{AreMembers, Goes, IsMember, parts_of}
+use Rattle.core_replay.specs.Crew.{Goes, parts_of}
 use Rattle.core_replay.specs.Plain.{Plain, plain_did, serving, sharing, with_ticket}
-use Rattle.core_replay.proofs.Members.{member-here, parts-at, parts-set}
+use Rattle.core_replay.proofs.Members.{parts-at}
 
 -- what the calls of a worker don't change of its hand
 pub record SameHand (h h' : Plain) : Type 0 where
@@ -99,7 +99,6 @@ memory-goes turn next c e = subst (λ t. Goes t next c) (sym e) tt
 module _ (ranked : RankedOrders) (charges : ChargeTable) (ranks : IsRanked ranked) (hand : Plain)
     (ws : List WorkerParts) (number : ℕ) (within : number < length ws)
     (few : hand.shared.drawn + 1 < 2 ^ 64) (w : WorkerParts) (at : w ≡ get_or ws number w)
-    (members : AreMembers ranked charges (length ws) 0 ws)
     (safe : IsSafe ranked charges (length ws) number w.parts)
     (queued : (j : ℕ) → AllByRecursion (IsPathOf ranked) (deque hand.shared j)) where
   abbrev core : Core
@@ -135,12 +134,11 @@ module _ (ranked : RankedOrders) (charges : ChargeTable) (ranks : IsRanked ranke
       Goes turn (event ranked charges hand.budget core number)
       (record { shared = hand'.shared; workers = set (parts_of ws) number w'.parts })
   step-goes turn w' hand' b =
-      let long : length (parts_of ws) ≡ length ws = parts-length ws in
       elim (step-made ranked charges hand.budget ranks core number w.parts safe.held_in safe.held
       queued turn w'.parts hand'.shared
       (steps-seen plain_did (called hand.budget number (any_busy (parts_of ws)))
       (λ (h : Plain). h.shared) served hand' (calls-alike served hand' few) ranked charges
       (length (parts_of ws)) number w.parts w'.parts turn b)) [
-        | inl e ↦ made turn w'.parts hand'.shared (e.0, (e.1, e.2))
+        | inl e ↦ made turn w'.parts hand'.shared (e.0, e.1.0, e.1.1)
         | inr e ↦ memory-goes turn _ _ e.0
       ]

@@ -1,8 +1,7 @@
 mod Members
-mod Runs
 mod HandTurns
 mod Ready
-mod InTree
-mod Bests
 mod Fits
-mod Joined
+mod DequeChanges
+mod CrewTurns
+mod Loops

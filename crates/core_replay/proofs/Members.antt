@@ -80,7 +80,7 @@ module _ (w : Parts) where
   waits [] l e h = absurd (omega arith)
   waits (path ∷ paths) l e h = rw (h, e) refl
 
-  busy-in : (phase : Phase) → HeldIn phase w.held → WaitingIn phase w.waiting →
+  pub busy-in : (phase : Phase) → HeldIn phase w.held → WaitingIn phase w.waiting →
       has_path phase ≡ is_busy w
   busy-in Resting h e = empty-handed h e
   busy-in Taking h e = empty-handed h e

@@ -3,16 +3,14 @@
 use Rattle.std.proofs.Common.{ℕ, zero, suc, ◌+◌, ◌^◌, ◌<◌, ◌≤◌, ◌≡◌, Bool, true, false, cond, List}
 use Rattle.std.proofs.Common.{[], ◌∷◌, length, refl, sym, ap, ◌∙◌, subst, arith}
 use Rattle.std.specs.List.{AllByRecursion}
+use Rattle.order_symmetry.specs.Ranked.{IsRanked}
 use Rattle.search_step.specs.Parts.{Parts}
 use Rattle.search_step.specs.Serving.{IsPathOf}
-use Rattle.search_step.specs.declared.parts.Turn.{Turn}
 use Rattle.core_machine.specs.Core.{Core, deque, event}
 use Rattle.core_machine.specs.Counts.{sum_of}
 use Rattle.core_machine.specs.Steady.{IsSteady, has_spent, spent_by}
 use Rattle.core_machine.proofs.Lists.{all-get-or}
-use Rattle.core_machine.proofs.Steady.{steady-event}
 use Rattle.core_replay.specs.Crew.{CrewState, Goes, IsReady, SameRun}
-use Rattle.core_replay.proofs.Runs.{Goes-on, goes-so}
 
 spent-at-most : (ws : List Parts) → sum_of spent_by ws ≤ length ws
 spent-at-most [] = omega arith

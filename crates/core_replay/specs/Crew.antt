@@ -1,5 +1,5 @@
 -- Workers that take turns over one plain hand.
-use Rattle.std.specs.Prelude.{ℕ, suc, ◌≡◌, ◌≤◌, Bool, true, false, List, [], ◌∷◌, map}
+use Rattle.std.specs.Prelude.{ℕ, suc, ◌≡◌, ◌<◌, ◌≤◌, Bool, true, false, List, [], ◌∷◌, map}
 use Rattle.std.specs.Prelude.{length}
 use Rattle.mill_model.specs.Charges.{ChargeTable}
 use Rattle.mill_model.specs.declared.closing.Entry.{Entry}
@@ -41,6 +41,13 @@ abbrev pub AreMembers : RankedOrders → ChargeTable → ℕ → ℕ → List Wo
 AreMembers ranked charges workers number [] = Unit {0}
 AreMembers ranked charges workers number (w ∷ ws) =
     IsMember ranked charges workers number w × AreMembers ranked charges workers (suc number) ws
+
+-- so many workers of a crew
+pub record IsCrew (ranked : RankedOrders) (charges : ChargeTable) (workers : ℕ)
+    (ws : List WorkerParts) : Type 0 where
+  pub some : 0 < workers
+  pub long : length ws ≡ workers
+  pub members : AreMembers ranked charges workers 0 ws
 
 -- new workers, with no path yet
 abbrev pub new_crew : RankedOrders → ChargeTable → ℕ → ℕ → ℕ → ℕ → CrewState

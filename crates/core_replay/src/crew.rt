@@ -12,7 +12,7 @@ use crate::plain_hand::PlainHand;
 use mill_model::{Charges, Limits, OutOfMemory, Path, Start};
 use order_symmetry::Ranked;
 use refute_log::{Piece, Run};
-use search_step::{Hand, Worker};
+use search_step::{Hand, Worker, WorkerEnd};
 use std::alloc::Global;
 use std::marker::Model;
 
@@ -25,8 +25,7 @@ pub(crate) struct Crew<'a> {
 }
 
 impl<'a> Model for Crew<'a> {
-    ghost use Rattle.std.specs.Prelude.{◌≡◌, vec_len};
-    ghost use Rattle.core_replay.specs.Crew.{AreMembers, CrewState, parts_of};
+    ghost use Rattle.core_replay.specs.Crew.{CrewState, IsCrew, parts_of};
 
     ghost Value = { CrewState };
 
@@ -37,8 +36,7 @@ impl<'a> Model for Crew<'a> {
       core = record { shared = c.hand.shared; workers = parts_of c.workers.items };
     } };
 
-    ghost invariant = { λ c. (vec_len c.workers ≡ c.hand.workers)
-        × AreMembers c.hand.ranked c.charges.now c.hand.workers 0 c.workers.items };
+    ghost invariant = { λ c. IsCrew c.hand.ranked c.charges.now c.hand.workers c.workers.items };
 }
 
 impl<'a> Crew<'a> {
@@ -127,13 +125,18 @@ fn end_all(
 {
     let mut best = start;
     for worker in workers {
-        let mut end = worker.finish();
-        pieces.push(end.piece)?;
-        if let Some(path) = end.held {
+        let WorkerEnd {
+            piece,
+            held,
+            mut waiting,
+            best: found,
+        } = worker.finish();
+        pieces.push(piece)?;
+        if let Some(path) = held {
             unclosed.push(path)?;
         }
-        unclosed.append(&mut end.waiting)?;
-        best = better_of(best, end.best);
+        unclosed.append(&mut waiting)?;
+        best = better_of(best, found);
     }
     Ok(best)
 }

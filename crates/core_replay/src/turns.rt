@@ -52,6 +52,7 @@ impl Crew<'_> {
         ensures run { IfOk result (λ _. self.new.core ≡ after_schedule self.old.ranked
             self.old.charges self.old.budget self.old.core schedule.now) }
         ensures same { SameRun self.old self.new }
+        ensures ready { IfOk result (λ _. IsReady self.new) }
     {
         for &number in schedule {
             match self.turn(number) {
@@ -68,6 +69,7 @@ impl Crew<'_> {
         ensures round { IfOk result (λ stopped. (self.new.core, stopped)
             ≡ whole_round self.old.ranked self.old.charges self.old.budget self.old.core) }
         ensures same { SameRun self.old self.new }
+        ensures ready { IfOk result (λ _. IsReady self.new) }
     {
         let mut stopped = true;
         for number in 0..self.hand.workers() {

@@ -1,6 +1,7 @@
 -- The best of a plan and those that workers keep: its loss is the least of theirs, and it is one of
 -- them.
-use Rattle.std.proofs.Common.{ℕ, zero, suc, ◌<◌, ◌≤◌, ◌≡◌, ◌⊎◌, inl, inr, Bool, true, false, cond, ltb}
+use Rattle.std.proofs.Common.{ℕ, zero, suc, ◌<◌, ◌≤◌, ◌≡◌, ◌⊎◌, inl, inr, Bool, true, false, cond}
+use Rattle.std.proofs.Common.{ltb}
 use Rattle.std.proofs.Common.{List, [], ◌∷◌, length, get_or, Option, Some, None, refl, sym, subst}
 use Rattle.std.proofs.Common.{arith, ltb-true, ltb-false}
 use Rattle.std.specs.List.{AllByRecursion}

@@ -1,6 +1,7 @@
 -- The unclosed paths of a conserved run are paths of the tree: what is on the way to one is split,
 -- so that each longer piece of it is a child of one that is in the tree.
-use Rattle.std.proofs.Common.{ℕ, ◌≡◌, List, [], ◌∷◌, ◌++◌, length, refl, sym, subst, arith, inl, inr}
+use Rattle.std.proofs.Common.{ℕ, ◌≡◌, List, [], ◌∷◌, ◌++◌, length, refl, sym, subst, arith, inl}
+use Rattle.std.proofs.Common.{inr}
 use Rattle.std.proofs.Common.{append-nil, append_assoc}
 use Rattle.std.specs.List.{AllByRecursion}
 use Rattle.list_laws.proofs.Among.{Among, Among-append_right, each-at}

@@ -30,7 +30,8 @@ module _ (x : List ℕ) where
   abbrev t : List (List ℕ) → ℕ
   t = times same_list x
 
-  recorded-times : (xs ys : List Entry) → t (recorded (xs ++ ys)) ≡ t (recorded xs) + t (recorded ys)
+  recorded-times : (xs ys : List Entry) →
+      t (recorded (xs ++ ys)) ≡ t (recorded xs) + t (recorded ys)
   recorded-times xs ys =
       ap t (recorded-append xs ys) ∙ times-append same_list x (recorded xs) (recorded ys)
 

@@ -45,7 +45,9 @@ put-rises x (y ∷ []) h = go (ltb x y) refl (eqb x y) refl
     go true e s q = (ltb-true x y e, tt)
     go false e true q = tt
     go false e false q =
-        let a : y ≤ x = ltb-false x y e in let n : x ≢ y = false-eqb x y (sym q) in (omega arith, tt)
+        let a : y ≤ x = ltb-false x y e in
+        let n : x ≢ y = false-eqb x y (sym q) in
+        (omega arith, tt)
 put-rises x (y ∷ z ∷ ys) h =
     go (ltb x y) refl (eqb x y) refl (ltb x z) (eqb x z) (put-rises x (z ∷ ys) h.1)
   where
@@ -56,7 +58,9 @@ put-rises x (y ∷ z ∷ ys) h =
     go true e s q c d r = (ltb-true x y e, h)
     go false e true q c d r = h
     go false e false q true d r =
-        let a : y ≤ x = ltb-false x y e in let n : x ≢ y = false-eqb x y (sym q) in (omega arith, r)
+        let a : y ≤ x = ltb-false x y e in
+        let n : x ≢ y = false-eqb x y (sym q) in
+        (omega arith, r)
     go false e false q false true r = (h.0, r)
     go false e false q false false r = (h.0, r)
 

@@ -16,4 +16,5 @@ pub mod Joined
 pub mod Bests
 pub mod InTree
 pub mod Promise
-pub mod Rows
+pub mod SmallRuns
+pub mod RunLaws

@@ -1,5 +1,6 @@
 -- Lists in which one thing is replaced, and sums over lists.
-use Rattle.std.proofs.Common.{ℕ, zero, suc, ◌+◌, ◌<◌, ◌≤◌, ◌≡◌, ◌≢◌, List, [], ◌∷◌, ◌++◌, length, map}
+use Rattle.std.proofs.Common.{ℕ, zero, suc, ◌+◌, ◌<◌, ◌≤◌, ◌≡◌, ◌≢◌, List, [], ◌∷◌, ◌++◌, length}
+use Rattle.std.proofs.Common.{map}
 use Rattle.std.proofs.Common.{set, get_or, replicate, refl, ap, arith}
 use Rattle.std.specs.List.{AllByRecursion}
 use Rattle.core_machine.specs.Counts.{sum_of}

@@ -1,6 +1,6 @@
--- What a run leaves keeps the promise of a run: with the pieces and the unclosed paths that it began
--- with, no path is lost or recorded twice, each record is sound for the least loss, which the best
--- plan loses, each ticket is a record, and a path is left only where tickets wanted.
+-- What a run leaves keeps the promise of a run: with the pieces and the unclosed paths that it
+-- began with, no path is lost or recorded twice, each record is sound for the least loss, which the
+-- best plan loses, each ticket is a record, and a path is left only where tickets wanted.
 use Rattle.std.proofs.Common.{ℕ, suc, ◌+◌, ◌<◌, ◌≤◌, ◌≡◌, ◌≢◌, inl, inr, min, Bool, true}
 use Rattle.std.proofs.Common.{false, not, ◌&&◌, ◌||◌, List, [], ◌∷◌, ◌++◌, length, flat_map}
 use Rattle.std.proofs.Common.{get_or, Option, Some, None, option_to_list, refl, sym, ap, ◌∙◌, subst}

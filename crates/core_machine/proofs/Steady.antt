@@ -224,7 +224,7 @@ module _ (ranked : RankedOrders) (charges : ChargeTable) (budget : ℕ) where
       all-set (AllByRecursion (IsPathOf ranked)) c.shared.deques j paths queued a,
     )
 
-    queue-at : (j : ℕ) → AllByRecursion (IsPathOf ranked) (deque c.shared j)
+    pub queue-at : (j : ℕ) → AllByRecursion (IsPathOf ranked) (deque c.shared j)
     queue-at j =
         all-get-or (AllByRecursion (IsPathOf ranked)) c.shared.deques j [] queued tt
 

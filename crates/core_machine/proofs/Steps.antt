@@ -9,7 +9,8 @@ use Rattle.search_step.specs.Parts.{Parts}
 use Rattle.search_step.specs.Moves.{Moves, rested, took, stole, drew, looked, closed}
 use Rattle.search_step.specs.Moves.{last_of}
 use Rattle.search_step.specs.Serving.{IsPathOf}
-use Rattle.search_step.specs.Steps.{Steps, StepAt, Pushes, IsOfTree, Becomes, BecomesOrStays, Closes}
+use Rattle.search_step.specs.Steps.{Steps, StepAt, Pushes, IsOfTree, Becomes, BecomesOrStays}
+use Rattle.search_step.specs.Steps.{Closes}
 use Rattle.search_step.specs.Steps.{AreOf, HeldIn, task_at}
 use Rattle.search_step.specs.declared.event.Event.{Event}
 use Rattle.search_step.specs.declared.event.Event.TheVariants.{Took, Stole, Pushed, Refused}

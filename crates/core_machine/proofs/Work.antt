@@ -1,6 +1,6 @@
 -- Each event lowers what is left to do, or is idle: it leaves what is shared as it was, its worker
--- as busy as it was, and nearer to its rest or to a path in its own deque, or as near. A ticket pays
--- for a whole closing, since a path has no more children than there are orders.
+-- as busy as it was, and nearer to its rest or to a path in its own deque, or as near. A ticket
+-- pays for a whole closing, since a path has no more children than there are orders.
 use Rattle.std.proofs.Common.{ℕ, zero, suc, ◌+◌, ◌*◌, ◌-◌, ◌<◌, ◌≤◌, ◌≡◌, ◌≢◌, ◌⊎◌, inl, inr}
 use Rattle.std.proofs.Common.{Bool, true, false, cond, ◌&&◌, ◌||◌, not, ltb, List, [], ◌∷◌, ◌++◌}
 use Rattle.std.proofs.Common.{length, filter, set, get_or, Option, Some, None, option_to_list}

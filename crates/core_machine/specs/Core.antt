@@ -54,7 +54,7 @@ deque s number = get_or s.deques number []
 abbrev pub with_deque : Shared → ℕ → List (List ℕ) → Shared
 with_deque s number paths = record s { deques = set s.deques number paths }
 
--- the own worker takes the last path and puts one last, others steal the first
+-- a deque's own worker takes its last path and puts one last, and others steal its first
 abbrev pub with_taken : Shared → ℕ → Shared
 with_taken s number = with_deque s number (front (deque s number))
 
@@ -93,7 +93,7 @@ standing busy s =
 
 -- What an event makes of a state.
 
--- the place of a worker that isn't there
+-- what stands for a worker that isn't there
 abbrev pub no_worker : Parts
 no_worker = record {
   phase = Ended;

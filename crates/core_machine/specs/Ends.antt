@@ -21,8 +21,8 @@ is_drained c = list_all is_empty c.shared.deques && not (any_busy c.workers)
 abbrev pub is_over : Core → Bool
 is_over c = c.shared.halted || is_drained c
 
--- A bound on the steps that a worker takes until it draws a ticket or takes a path, where a path has
--- at most so many children.
+-- A bound on the steps that a worker takes until it draws a ticket or takes a path, where a path
+-- has at most so many children.
 abbrev pub phase_weight : ℕ → Phase → ℕ → ℕ
 phase_weight orders Ended waiting = 0
 phase_weight orders Halting waiting = 1

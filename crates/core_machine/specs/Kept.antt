@@ -1,5 +1,6 @@
 -- What a run of a machine keeps of paths, tickets and plans.
-use Rattle.std.specs.Prelude.{ℕ, ◌+◌, ◌<◌, ◌≤◌, ◌≡◌, ◌≢◌, ◌⊎◌, cond, ltb, min, List, [], ◌∷◌, length}
+use Rattle.std.specs.Prelude.{ℕ, ◌+◌, ◌<◌, ◌≤◌, ◌≡◌, ◌≢◌, ◌⊎◌, cond, ltb, min, List, [], ◌∷◌}
+use Rattle.std.specs.Prelude.{length}
 use Rattle.std.specs.Prelude.{Option, Some, None}
 use Rattle.list_laws.specs.Sets.{times, same_list}
 use Rattle.mill_model.specs.Charges.{ChargeTable}
@@ -14,8 +15,8 @@ use Rattle.core_machine.specs.Counts.{sum_of, own_count, split_count, tickets_of
 use Rattle.core_machine.specs.Ends.{IsAtEnd}
 use Rattle.core_machine.specs.Steady.{EachWorker, IsSteady}
 
--- Of a run that began with a loss, with some paths to close and so many records before. The paths of
--- the workers and the deques are those to close and the children of the paths that the workers
+-- Of a run that began with a loss, with some paths to close and so many records before. The paths
+-- of the workers and the deques are those to close and the children of the paths that the workers
 -- split. The records are the tickets, with one more for each worker that has a path in work.
 pub record IsGood (ranked : RankedOrders) (charges : ChargeTable) (start budget before : ℕ)
     (owed : List (List ℕ)) (c : Core) : Type 0 where

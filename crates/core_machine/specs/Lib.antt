@@ -6,3 +6,4 @@ pub mod Steady
 pub mod Ends
 pub mod Kept
 pub mod Rows
+pub mod Laws

@@ -35,8 +35,8 @@ abbrev pub EachWorker : Core → (ℕ → Parts → Type 0) → Type 0
 EachWorker c IsSo = (i : ℕ) → i < length c.workers → IsSo i (worker c i)
 
 -- There is a deque for each worker. Each worker is safe, and each path in a deque is one of the
--- tree. A halt comes only where more tickets are drawn than there are, which a worker saw that drew
--- one of them, and a worker ends only after a halt. Of the tickets beyond the last, each worker drew
+-- tree. Only where more tickets are drawn than there are, a halt is called or a worker is on its
+-- way to call one, and a worker ends only after a halt. Beyond the last ticket, each worker drew
 -- one at most.
 pub record IsSteady (ranked : RankedOrders) (charges : ChargeTable) (budget : ℕ) (c : Core)
     : Type 0 where

@@ -1,10 +1,12 @@
 -- The rows compute, once the list of the charges is known.
-use Rattle.std.proofs.Common.{ℕ, ◌≡◌, ◌≤◌, true, List, [], ◌∷◌, map, Some, None, refl, sym, subst, All}
+use Rattle.std.proofs.Common.{ℕ, ◌≡◌, ◌≤◌, true, List, [], ◌∷◌, map, Some, None, refl, sym, subst}
+use Rattle.std.proofs.Common.{All}
 use Rattle.std.proofs.Common.{slice_index}
 use Rattle.mill_model.specs.Charges.{ChargeTable}
 use Rattle.mill_model.specs.Log.{recorded}
 use Rattle.mill_model.specs.declared.charges.TheConstants.{MAX_CHARGE}
 use Rattle.core_machine.specs.Core.{after_rounds, pieces_of, start_state}
+use Rattle.core_machine.specs.Rows.{FindsAPlan, KeyInOrder, PlanInTheFile, PublishesItsLoss}
 use Rattle.core_machine.specs.Rows.{DoneAlone, FirstRecords, HoldsWhatItStole, RecordsAlone}
 use Rattle.core_machine.specs.Rows.{ThiefRecords, four_charges, one_and_again, three, two_after}
 
@@ -45,3 +47,20 @@ records-alone =
     (start_state three 1 4)).0)
     ≡ ([] ∷ (0 ∷ []) ∷ (0 ∷ 0 ∷ []) ∷ (0 ∷ 1 ∷ []) ∷ []) ∷ []) four_charges
     (λ free limit. refl)
+
+pub finds-a-plan : FindsAPlan
+finds-a-plan =
+    for-list (λ charges. map (λ w. w.best) (after_rounds three charges 1000 60
+    (start_state three 1 9)).0.workers
+    ≡ Some (record { plan = 0 ∷ 1 ∷ 0 ∷ []; loss = 4 }) ∷ []) four_charges (λ free limit. refl)
+
+pub publishes-its-loss : PublishesItsLoss
+publishes-its-loss =
+    for-list (λ charges. (after_rounds three charges 1000 60
+    (start_state three 1 9)).0.shared.least ≡ 4) four_charges (λ free limit. refl)
+
+pub plan-in-the-file : PlanInTheFile
+plan-in-the-file = refl
+
+pub key-in-order : KeyInOrder
+key-in-order = refl

@@ -9,3 +9,4 @@ pub mod Served
 pub mod Agree
 pub mod Run
 pub mod Given
+pub mod BothHalves

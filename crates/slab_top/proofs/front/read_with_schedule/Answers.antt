@@ -10,3 +10,37 @@ read_instance-requires-clause-low c = (c.requires.in_range Colours).0
 
 pub read_instance-requires-clause-high : goal.read_instance-requires-clause-high
 read_instance-requires-clause-high c = (c.requires.in_range Colours).1
+
+pub returns-in-Ok : goal.returns-in-Ok
+returns-in-Ok c =
+    let front : Front = record {
+      problem = c.in_ok-instance.instance;
+      end = c.in_ok-instance.end;
+    } in (
+      front,
+      (c.in_ok-instance.ensures.limit, c.in_ok-instance.ensures.found),
+      (
+        refl,
+        subst (λ text. IsScheduleText c.args.job.limits.workers text c.in-Ok.schedule.items)
+            c.text_behind.ensures c.in-Ok.ensures.schedule,
+      ),
+    )
+
+pub returns-in-Err-BadToken : goal.returns-in-Err-BadToken
+returns-in-Err-BadToken c =
+    let front : Front = record {
+      problem = c.in_ok-instance.instance;
+      end = c.in_ok-instance.end;
+    } in
+    let wrong = c.in-Err-BadToken.ensures.refused in
+    let is = c.in-Err-BadToken.field-0-is in
+    let token-is = c.in-Err-BadToken.token-is in
+    inr (
+      front,
+      (c.in_ok-instance.ensures.limit, c.in_ok-instance.ensures.found),
+      (
+        _,
+        refl,
+        subst (λ text. IsWrongToken c.args.job.limits.workers text _) c.text_behind.ensures ?,
+      ),
+    )

@@ -47,7 +47,11 @@ fn the_schedule_says_who_closes(rt: HostRuntime) -> Result<(), Fail> {
         assert_eq!(rt; (status, kept.is_some()), (4, true), "{schedule}");
         if let Some(run) = &kept {
             assert_eq!(rt; run.pieces.len(), 2, "{schedule}");
-            assert_eq!(rt; run.pieces[worker].entries().len(), 1, "{schedule}");
+            let records = match run.pieces.get(worker) {
+                Some(piece) => piece.entries().len(),
+                None => 0,
+            };
+            assert_eq!(rt; records, 1, "{schedule}");
             assert_eq!(rt; count(run), 1, "{schedule}");
         }
     }

@@ -1,7 +1,9 @@
 -- The instance in front is read first. A refusal is that of the first reader that refuses.
-use Rattle.std.proofs.Common.{◌≡◌, refl, inr, subst}
+use Rattle.std.proofs.Common.{refl, ap, inr, subst}
 use Rattle.job_words.specs.declared.option.Setting.TheVariants.{Colours}
-use Rattle.schedule_text.specs.Text.{IsScheduleText, IsWrongToken}
+use Rattle.reply_text.specs.declared.refusal.Refusal.TheVariants.{Schedule}
+use Rattle.schedule_text.specs.Text.{IsScheduleText, IsWrongToken, HasCause}
+use Rattle.schedule_text.specs.declared.error.ScheduleTextError.TheVariants.{BadToken}
 use Rattle.slab_top.specs.Input.{Front}
 use Rattle.slab_top.proofs.front.read_with_schedule.Goals as goal
 
@@ -32,15 +34,17 @@ returns-in-Err-BadToken c =
       problem = c.in_ok-instance.instance;
       end = c.in_ok-instance.end;
     } in
-    let wrong = c.in-Err-BadToken.ensures.refused in
-    let is = c.in-Err-BadToken.field-0-is in
-    let token-is = c.in-Err-BadToken.token-is in
+    let workers = c.args.job.limits.workers in
+    let token = c.in-Err-BadToken.token in
+    let wrong : HasCause workers c.text_behind.result.now (BadToken token) =
+    subst (HasCause workers c.text_behind.result.now) c.in-Err-BadToken.field-0-is
+    c.in-Err-BadToken.ensures.refused in
     inr (
       front,
       (c.in_ok-instance.ensures.limit, c.in_ok-instance.ensures.found),
       (
-        _,
-        refl,
-        subst (λ text. IsWrongToken c.args.job.limits.workers text _) c.text_behind.ensures ?,
+        token,
+        ap Schedule c.in-Err-BadToken.token-is,
+        subst (λ text. IsWrongToken workers text token) c.text_behind.ensures wrong,
       ),
     )

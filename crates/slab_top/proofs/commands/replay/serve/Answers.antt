@@ -19,7 +19,7 @@ pub prove-requires-clause-numbers : goal.prove-requires-clause-numbers
 prove-requires-clause-numbers c =
     subst (AllByRecursion (λ worker. worker < c.args.job.limits.workers)) (sym c.deref.ensures.value)
     (schedule-below c.args.job.limits.workers _ c.in_ok-instance.schedule.items
-    c.in_ok-instance.ensures.2.2.1)
+    c.in_ok-instance.ensures.2.1)
 
 pub returns-clause-reply : goal.returns-clause-reply
 returns-clause-reply c =

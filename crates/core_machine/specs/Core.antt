@@ -54,7 +54,7 @@ deque s number = get_or s.deques number []
 abbrev pub with_deque : Shared → ℕ → List (List ℕ) → Shared
 with_deque s number paths = record s { deques = set s.deques number paths }
 
--- the own worker takes the last path and puts one last, others steal the first
+-- a deque's own worker takes its last path and puts one last, and others steal its first
 abbrev pub with_taken : Shared → ℕ → Shared
 with_taken s number = with_deque s number (front (deque s number))
 
@@ -93,7 +93,7 @@ standing busy s =
 
 -- What an event makes of a state.
 
--- the place of a worker that isn't there
+-- what stands for a worker that isn't there
 abbrev pub no_worker : Parts
 no_worker = record {
   phase = Ended;
@@ -115,6 +115,19 @@ abbrev pub with_worker : Core → ℕ → Shared → Moves → Core × Turn
 with_worker c number s move =
     (record { shared = s; workers = set c.workers number move.0 }, move.1)
 
+-- what is shared after a push of the last waiting path, with what becomes of the worker
+abbrev pub push_last : Core → ℕ → Parts → Option (List ℕ) → Shared × Moves
+push_last c number w None = (c.shared, (to Resting w, Moved))
+push_last c number w (Some path) =
+    (with_pushed c.shared number path, pushed w (front w.waiting))
+
+abbrev pub is_stopped : Turn → Bool
+is_stopped Stopped = true
+is_stopped Moved = false
+is_stopped Drew = false
+is_stopped Idle = false
+is_stopped OutOfMemory = false
+
 module _ (ranked : RankedOrders) (charges : ChargeTable) where
   -- a worker after it closed the path that it holds
   abbrev pub closed_held : Parts → Option (List ℕ) → Moves
@@ -123,46 +136,38 @@ module _ (ranked : RankedOrders) (charges : ChargeTable) where
       closed (task_at ranked charges) (live_key_at ranked path) (plan_at ranked path) w (Some path)
 
   module _ (budget : ℕ) where
-    abbrev pub push_last : Core → ℕ → Parts → Option (List ℕ) → Core × Turn
-    push_last c number w None = with_worker c number c.shared (to Resting w, Moved)
-    push_last c number w (Some path) =
-        with_worker c number (with_pushed c.shared number path) (pushed w (front w.waiting))
+    -- what is shared after a worker's step, with what becomes of the worker, by its phase
+    abbrev pub step_in : Phase → Core → ℕ → Parts → Shared × Moves
+    step_in Resting c number w =
+        (c.shared, rested w (standing (any_busy c.workers) c.shared))
+    step_in Taking c number w = (
+      with_taken c.shared number,
+      took (length c.workers) w (last_of (deque c.shared number)),
+    )
+    step_in Stealing c number w = (
+      with_stolen c.shared w.victim,
+      stole (length c.workers) number w (first_of (deque c.shared w.victim)),
+    )
+    step_in Holding c number w =
+        (with_draw c.shared, drew w (draw_at budget c.shared.drawn))
+    step_in Halting c number w = (with_halt c.shared, (to Ended w, Stopped))
+    step_in Ended c number w = (c.shared, (w, Stopped))
+    step_in Bounding c number w = (c.shared, looked w c.shared.least)
+    step_in ClosingNow c number w = (c.shared, closed_held w w.held)
+    step_in Publishing c number w = (with_least c.shared w.known, (to Resting w, Moved))
+    step_in Pushing c number w = push_last c number w (last_of w.waiting)
 
-    -- an event of a worker, by its phase
-    abbrev pub event_in : Phase → Core → ℕ → Parts → Core × Turn
-    event_in Resting c number w =
-        with_worker c number c.shared (rested w (standing (any_busy c.workers) c.shared))
-    event_in Taking c number w =
-        with_worker c number (with_taken c.shared number)
-        (took (length c.workers) w (last_of (deque c.shared number)))
-    event_in Stealing c number w =
-        with_worker c number (with_stolen c.shared w.victim)
-        (stole (length c.workers) number w (first_of (deque c.shared w.victim)))
-    event_in Holding c number w =
-        with_worker c number (with_draw c.shared) (drew w (draw_at budget c.shared.drawn))
-    event_in Halting c number w =
-        with_worker c number (with_halt c.shared) (to Ended w, Stopped)
-    event_in Ended c number w = with_worker c number c.shared (w, Stopped)
-    event_in Bounding c number w = with_worker c number c.shared (looked w c.shared.least)
-    event_in ClosingNow c number w = with_worker c number c.shared (closed_held w w.held)
-    event_in Publishing c number w =
-        with_worker c number (with_least c.shared w.known) (to Resting w, Moved)
-    event_in Pushing c number w = push_last c number w (last_of w.waiting)
+    abbrev pub step : Core → ℕ → Shared × Moves
+    step c number = step_in (worker c number).phase c number (worker c number)
 
+    -- an event: the step of one worker
     abbrev pub event : Core → ℕ → Core × Turn
-    event c number = event_in (worker c number).phase c number (worker c number)
+    event c number = with_worker c number (step c number).0 (step c number).1
 
     -- the state after the events of a schedule, which names a worker for each
     abbrev pub after_schedule : Core → List ℕ → Core
     after_schedule c [] = c
     after_schedule c (number ∷ schedule) = after_schedule (event c number).0 schedule
-
-    abbrev pub is_stopped : Turn → Bool
-    is_stopped Stopped = true
-    is_stopped Moved = false
-    is_stopped Drew = false
-    is_stopped Idle = false
-    is_stopped OutOfMemory = false
 
     -- the state after an event of each of the first workers, and whether each answered Stopped
     abbrev pub round : Core → ℕ → Core × Bool

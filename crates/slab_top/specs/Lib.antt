@@ -10,3 +10,4 @@ pub mod Served
 pub mod Agree
 pub mod Run
 pub mod Given
+pub mod BothHalves

@@ -34,7 +34,7 @@ use Rattle.answer_text.specs.Text.{Fits, most_orders}
 use Rattle.answer_text.specs.declared.answer.Answer.TheVariants.{Optimal, Feasible, Infeasible}
 use Rattle.answer_text.proofs.Printed.{may-print, read-back}
 use Rattle.reply_text.specs.declared.solution.Solution.{Solution}
-use Rattle.search_step.specs.Promise.{records_of}
+use Rattle.search_step.specs.Promise.{records_of, EachSplitsAnew}
 use Rattle.piece_merge.specs.Merging.{IsCompleteLogOf, NamesSettledPaths}
 use Rattle.solve_answer.specs.Searched.{loss_task, HasStopped}
 use Rattle.solve_answer.specs.Solved.{IsSpent, IsRefutation, IsTold}
@@ -208,6 +208,8 @@ module _ (limits : Limits) (schedule : List ℕ) (problem : Problem) (run : Run)
             begins = has.core_run.begins;
             last = left.last;
             is = left.is;
+            anew = subst (λ pieces. EachSplitsAnew has.core_run.ranked has.core_run.charges pieces)
+                left.pieces has.core_run.anew;
             records = subst (λ pieces. IsPermutation (joined pieces) log) left.pieces moved;
           };
         }

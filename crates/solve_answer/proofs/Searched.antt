@@ -22,7 +22,7 @@ use Rattle.order_symmetry.specs.Ranked.{RankedOrders, IsRankOf, orders_of}
 use Rattle.refute_log.specs.Fits.{fits}
 use Rattle.refute_log.specs.declared.piece.Run.{Run}
 use Rattle.search_step.specs.Honest.{IsKept}
-use Rattle.search_step.specs.Promise.{records_of, IsRun, IsThrifty}
+use Rattle.search_step.specs.Promise.{records_of, IsRun, IsThrifty, EachSplitsAnew}
 use Rattle.search_step.specs.Steps.{task_at}
 use Rattle.core_replay.specs.Replayed.{IsLeftBy}
 use Rattle.solve_answer.specs.Searched.{loss_task, OfStartBound, IsOfACoreRun}
@@ -51,6 +51,7 @@ module _ (limits : Limits) (schedule : List ℕ) (problem : Problem) (ranked : R
     (possible : IsPossibleStart (mill_of problem) (loss_charge problem.sizes) problem.orders
     limits.moves start.plan) (is : IsRun ranked charges start.loss limits.nodes run)
     (thrifty : IsThrifty ranked charges start.loss run)
+    (anew : EachSplitsAnew ranked charges (records_of run))
     (left : IsLeftBy ranked charges limits.nodes limits.workers start.loss schedule run) where
   same-task : task_at ranked charges ≡ loss_task problem
   same-task = task-is problem ranked charges rank table
@@ -100,6 +101,7 @@ module _ (limits : Limits) (schedule : List ℕ) (problem : Problem) (ranked : R
       at_most = of-bound (λ most. start.loss ≤ most) start-within;
     };
     left = left;
+    anew = anew;
   }
 
   run-plan : IsStartOf problem (loss_charge problem.sizes)

@@ -15,7 +15,7 @@ use Rattle.mill_laws.specs.RunLaws.{EachRecord}
 use Rattle.loss_table.specs.Charges.{AreCharges}
 use Rattle.order_symmetry.specs.Ranked.{RankedOrders, IsRankOf}
 use Rattle.refute_log.specs.declared.piece.Run.{Run}
-use Rattle.search_step.specs.Promise.{records_of}
+use Rattle.search_step.specs.Promise.{records_of, EachSplitsAnew}
 use Rattle.core_machine.specs.Core.{Core, IsCoreRun, pieces_of}
 use Rattle.core_replay.specs.Replayed.{IsLeftBy}
 
@@ -41,7 +41,8 @@ pub record MayBegin (problem : Problem) (moves : ℕ) (ranked : RankedOrders)
   pub at_most : OfStartBound problem moves (λ bound. loss ≤ bound)
 
 module _ (limits : Limits) (schedule : List ℕ) (problem : Problem) where
-  -- the records of a log are those of a core run of this schedule
+  -- The records of a log are those of a core run of this schedule. No piece of fewer than 65,536
+  -- records splits a path for which one stands that it split before.
   pub record AreOfACoreRun (log : List Entry) : Type 0 where
     pub ranked : RankedOrders
     pub charges : ChargeTable
@@ -50,14 +51,16 @@ module _ (limits : Limits) (schedule : List ℕ) (problem : Problem) where
     pub last : Core
     pub is : IsCoreRun ranked charges limits.nodes limits.workers loss schedule last
     pub records : IsPermutation (joined (pieces_of last)) log
+    pub anew : EachSplitsAnew ranked charges (pieces_of last)
 
-  -- a run is what such a core run leaves
+  -- a run is what such a core run leaves, and its pieces split so
   pub record IsOfACoreRun (run : Run) : Type 0 where
     pub ranked : RankedOrders
     pub charges : ChargeTable
     pub loss : ℕ
     pub begins : MayBegin problem limits.moves ranked charges loss
     pub left : IsLeftBy ranked charges limits.nodes limits.workers loss schedule run
+    pub anew : EachSplitsAnew ranked charges (records_of run)
 
   -- A run stopped with its budget spent, and with this plan and its loss but for the numbers of the
   -- slabs: no path of it is lost or recorded twice, its records are sound for that loss, as many as

@@ -13,7 +13,7 @@ replay-requires-clause-light c =
     problem.orders c.requires.light)
 
 pub replay-requires-clause-start : goal.replay-requires-clause-start
-replay-requires-clause-start c = c.in_ok-beginning.ensures.beginning.begins.plan
+replay-requires-clause-start c = c.in_ok-beginning.ensures.beginning.begins
 
 pub returns : goal.returns
 returns c =
@@ -22,4 +22,4 @@ returns c =
     has-searched c.args.limits c.args.schedule.now c.args.instance.now made.ranked made.charges
     made.start c.in_ok-run.run' beginning.ranked beginning.charged beginning.begins
     beginning.possible c.in_ok-run.ensures.run c.in_ok-run.ensures.thrifty
-    c.in_ok-run.ensures.left
+    c.in_ok-run.ensures.anew c.in_ok-run.ensures.core

@@ -6,8 +6,8 @@ use Rattle.order_symmetry.specs.Ranked.{RankedOrders}
 use Rattle.search_step.specs.Accounts.{DidMaybe, Keeps}
 use Rattle.search_step.specs.Moves.{front, last_of, looked, pushed, rested, took, stole, drew, to}
 use Rattle.search_step.specs.Parts.{Parts}
-use Rattle.search_step.specs.Steps.{FitsMill, IsSafe, Pushes, StepAt, Steps}
-use Rattle.search_step.specs.Worker.{WorkerParts, IsWorker}
+use Rattle.search_step.specs.Steps.{IsSafe, Pushes, StepAt, Steps}
+use Rattle.search_step.specs.Worker.{WorkerParts, IsSafeWorker}
 use Rattle.search_step.specs.declared.event.Event.{Event}
 use Rattle.search_step.specs.declared.event.Event.TheVariants.{Took, Stole, Pushed, Refused}
 use Rattle.search_step.specs.declared.event.Event.TheVariants.{Drew as DrewEvent, Looked, Published}
@@ -28,7 +28,7 @@ use Rattle.search_step.proofs.KeptByHand.{push-keeps, refusal-keeps}
 use Rattle.search_step.proofs.Lasts.{last-or-none}
 
 module _ {H : Type 0} (did : H → Event → H → Type 0) (worker : WorkerParts)
-    (is : IsWorker worker) (before after : H) where
+    (is : IsSafeWorker worker) (before after : H) where
   abbrev parts : Parts
   parts = worker.parts
 
@@ -116,11 +116,10 @@ module _ {H : Type 0} (did : H → Event → H → Type 0) (worker : WorkerParts
 
 pub steps-keep : {H : Type 0} (did : H → Event → H → Type 0) (ranked : RankedOrders)
     (charges : ChargeTable) (workers number : ℕ) (w : Parts) (before after : H) →
-    number < workers → workers ≤ 64 → FitsMill ranked charges →
-    IsSafe ranked charges workers number w → (turn : Turn) (became : Parts) →
+    number < workers → IsSafe ranked charges workers number w → (turn : Turn) (became : Parts) →
     Steps did ranked charges workers number w before turn became after →
     Keeps did ranked charges workers number w before turn became after
-steps-keep did ranked charges workers number w before after among few fits safe turn became step =
+steps-keep did ranked charges workers number w before after among safe turn became step =
     let worker : WorkerParts = record {
       ranked = ranked;
       charges = charges;
@@ -128,5 +127,5 @@ steps-keep did ranked charges workers number w before after among few fits safe 
       workers = workers;
       parts = w;
     } in
-    kept-at did worker (record { among = among; few = few; fits = fits; safe = safe }) before after
+    kept-at did worker (record { among = among; safe = safe }) before after
     w.phase refl turn became step

@@ -15,7 +15,7 @@ use Rattle.search_step.specs.Moves.{verdict_inner, verdict_leaf, verdict_open}
 use Rattle.search_step.specs.Parts.{Parts}
 use Rattle.search_step.specs.Steps.{AreOf, Becomes, BecomesOrStays, Closes, HeldIn, IsNotedOf}
 use Rattle.search_step.specs.Steps.{WaitingIn, task_at}
-use Rattle.search_step.specs.Worker.{WorkerParts, IsWorker}
+use Rattle.search_step.specs.Worker.{WorkerParts, IsSafeWorker}
 use Rattle.search_step.specs.declared.parts.Phase.{Phase}
 use Rattle.search_step.specs.declared.parts.Phase.TheVariants.{Resting, Publishing}
 use Rattle.search_step.specs.declared.parts.Phase.TheVariants.{Closing as ClosingNow}
@@ -31,7 +31,7 @@ use Rattle.search_step.proofs.KeptByHand.{memory-keeps, opened-held, opened-stea
 use Rattle.search_step.proofs.KeptByHand.{opened-waiting, opened-work}
 use Rattle.search_step.proofs.Notes.{notes-each, notes-room}
 
-module _ (worker : WorkerParts) (is : IsWorker worker)
+module _ (worker : WorkerParts) (is : IsSafeWorker worker)
     (here : worker.parts.phase ≡ ClosingNow) where
   abbrev parts : Parts
   parts = worker.parts

@@ -12,7 +12,7 @@ use Rattle.search_step.specs.Moves.{Moves, hold}
 use Rattle.search_step.specs.Parts.{Parts}
 use Rattle.search_step.specs.Serving.{IsPathOf}
 use Rattle.search_step.specs.Steps.{Becomes, HeldIn, IsSafe, WaitingIn, task_at}
-use Rattle.search_step.specs.Worker.{WorkerParts, IsWorker}
+use Rattle.search_step.specs.Worker.{WorkerParts, IsSafeWorker}
 use Rattle.search_step.specs.declared.event.Event.{Event}
 use Rattle.search_step.specs.declared.parts.Phase.{Phase}
 use Rattle.search_step.specs.declared.parts.Phase.TheVariants.{Resting, Taking, Stealing, Holding}
@@ -54,7 +54,7 @@ abbrev pub IsVictim : WorkerParts → ℕ → Type 0
 IsVictim worker victim =
     1 < worker.workers → (victim < worker.workers) × (victim ≢ worker.number)
 
-module _ (worker : WorkerParts) (is : IsWorker worker) where
+module _ (worker : WorkerParts) (is : IsSafeWorker worker) where
   abbrev parts : Parts
   parts = worker.parts
 

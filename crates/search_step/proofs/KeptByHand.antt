@@ -13,7 +13,7 @@ use Rattle.search_step.specs.Moves.{front, next_victim, pushing_or_resting}
 use Rattle.search_step.specs.Parts.{Parts}
 use Rattle.search_step.specs.Serving.{IsPathOf}
 use Rattle.search_step.specs.Steps.{HeldIn, IsOfTree, WaitingIn, task_at}
-use Rattle.search_step.specs.Worker.{WorkerParts, IsWorker}
+use Rattle.search_step.specs.Worker.{WorkerParts, IsSafeWorker}
 use Rattle.search_step.specs.declared.event.Event.TheVariants.{Took, Stole, Pushed, Refused}
 use Rattle.search_step.specs.declared.event.Event.TheVariants.{Drew as DrewEvent, Looked, Published}
 use Rattle.search_step.specs.declared.event.Event.TheVariants.{Stopping, Stood}
@@ -58,7 +58,7 @@ all-front : (P : List ℕ → Type 0) (xs : List (List ℕ)) (last : List ℕ) �
 all-front P [] last all = tt
 all-front P (x ∷ xs) last all = (all.0, all-front P xs last all.1)
 
-module _ (worker : WorkerParts) (is : IsWorker worker) where
+module _ (worker : WorkerParts) (is : IsSafeWorker worker) where
   abbrev parts : Parts
   parts = worker.parts
 

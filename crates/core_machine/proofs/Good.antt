@@ -18,7 +18,7 @@ use Rattle.search_step.specs.declared.event.Event.{Event}
 use Rattle.search_step.specs.declared.event.Event.TheVariants.{Took, Stole, Pushed, Refused}
 use Rattle.search_step.specs.declared.event.Event.TheVariants.{Drew as DrewEvent, Looked, Published}
 use Rattle.search_step.specs.declared.event.Event.TheVariants.{Stopping, Stood}
-use Rattle.search_step.proofs.Honesty.{steps-stay-honest}
+use Rattle.search_step.proofs.StaysHonest.{steps-stay-honest}
 use Rattle.core_machine.proofs.Lists.{sum-set}
 use Rattle.core_machine.proofs.Steady.{each-with, event-is-step, event-keeps}
 use Rattle.core_machine.specs.Calls.{called}
@@ -158,7 +158,7 @@ module _ (ranked : RankedOrders) (charges : ChargeTable) (budget : ℕ)
         KeepsHonest ranked charges (worker c i) (step ranked charges budget c i).1.0
     event-honest =
         steps-stay-honest (called budget i (any_busy c.workers)) ranked charges (length c.workers)
-        i w c.shared s' (steady.safe i l) fit (step ranked charges budget c i).1.1 w'
+        i w c.shared s' l steady.few fit (steady.safe i l) (step ranked charges budget c i).1.1 w'
         (event-is-step ranked charges budget fit.of_instance c i l steady)
 
     pub good-event : (start before : ℕ) (owed : List (List ℕ)) →

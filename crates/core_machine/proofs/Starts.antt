@@ -15,7 +15,7 @@ use Rattle.search_step.specs.Serving.{IsPathOf}
 use Rattle.search_step.specs.Steps.{IsSafe, task_at}
 use Rattle.search_step.specs.declared.parts.Phase.TheVariants.{Ended}
 use Rattle.search_step.proofs.Branches.{after-below, after-other}
-use Rattle.search_step.proofs.Honesty.{new-honest}
+use Rattle.search_step.proofs.StaysHonest.{new-honest}
 use Rattle.core_machine.proofs.Lists.{all-of-map, all-replicate, all-set, get-map, sum-none}
 use Rattle.core_machine.proofs.Plans.{get-below}
 use Rattle.core_machine.specs.Core.{first_state, new_workers, no_worker}

@@ -25,7 +25,7 @@ use Rattle.search_step.specs.declared.parts.Phase.TheVariants.{Pushing}
 use Rattle.search_step.specs.declared.parts.Verdict.{Verdict}
 use Rattle.search_step.specs.declared.parts.Verdict.TheVariants.{Better, Plain, ByPrices, ByOther}
 use Rattle.search_step.specs.declared.parts.Verdict.TheVariants.{Open}
-use Rattle.search_step.proofs.Law.{steps_keep}
+use Rattle.search_step.proofs.Kept.{steps-keep}
 use Rattle.core_machine.proofs.Lists.{get-set, get-other, all-set, all-get-or, sum-set}
 use Rattle.core_machine.proofs.Steps.{all-last, event-steps}
 use Rattle.core_machine.specs.Calls.{called}
@@ -281,8 +281,8 @@ module _ (ranked : RankedOrders) (charges : ChargeTable) (budget : ℕ) where
           (worker c i) c.shared (step ranked charges budget c i).1.1
           (step ranked charges budget c i).1.0 (step ranked charges budget c i).0
       event-keeps =
-          steps_keep (called budget i (any_busy c.workers)) ranked charges (length c.workers) i l
-          (worker c i) c.shared (step ranked charges budget c i).0 (steady.safe i l)
+          steps-keep (called budget i (any_busy c.workers)) ranked charges (length c.workers) i
+          (worker c i) c.shared (step ranked charges budget c i).0 l (steady.safe i l)
           (step ranked charges budget c i).1.1 (step ranked charges budget c i).1.0 event-is-step
 
       pub event-draws : c.shared.drawn ≤ (event ranked charges budget c i).0.shared.drawn

@@ -68,6 +68,13 @@ impl Piece {
     {
         &self.entries
     }
+
+    /// The records themselves, in the order of closing. It takes no memory.
+    pub fn into_entries(self) -> Vec<Entry>
+        ensures { result.items ≡ self.entries }
+    {
+        self.entries
+    }
 }
 
 /// What a run leaves: the records by worker, the paths that it didn't close, the best plan with its

@@ -1,4 +1,5 @@
-use Rattle.core_machine.proofs.SmallRuns.{done-alone, records-alone, finds-a-plan, publishes-its-loss}
+use Rattle.core_machine.proofs.SmallRuns.{done-alone, records-alone, finds-a-plan}
+use Rattle.core_machine.proofs.SmallRuns.{publishes-its-loss}
 use Rattle.core_machine.proofs.rows.one_worker.Goals as goal
 
 pub returns-clause-done : goal.returns-clause-done

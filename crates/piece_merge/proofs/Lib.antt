@@ -1,0 +1,4 @@
+pub mod ByPath
+pub mod Reordered
+pub mod MergedLog
+pub mod Rows

@@ -1,0 +1,3 @@
+pub mod FirstToken
+pub mod Decided
+pub mod WorkerNumbers

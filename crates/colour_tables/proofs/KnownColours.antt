@@ -3,14 +3,17 @@ use Rattle.std.proofs.Common.{ℕ, zero, suc, ◌<◌, ◌≤◌, ◌≡◌, ◌
 use Rattle.std.proofs.Common.{◌∷◌, map}
 use Rattle.std.proofs.Common.{length, get_or, eqb, eqb-true, eq-eqb, refl, sym, ap, ◌∙◌, subst}
 use Rattle.std.proofs.Common.{arith}
-use Rattle.std.proofs.Common.{inl, inr, ne_eqb}
+use Rattle.std.proofs.Common.{inl, inr, ne_eqb, Option, Some, None, ℤ}
 use Rattle.list_laws.specs.Sets.{holds, different, below}
 use Rattle.mill_model.specs.declared.order.Order.{Order}
 use Rattle.list_laws.proofs.Tests.{or-cases, clash}
 use Rattle.list_laws.proofs.Different.{below-holds, holds-below-lt}
-use Rattle.set_minima.specs.Packs.{colour_at}
+use Rattle.set_minima.specs.Packs.{colour_at, nobody}
 use Rattle.colour_tables.specs.Owned.{IsOwn, IsHeld}
+use Rattle.colour_tables.specs.PricedOrders.{AreTables, IsPlaceOf, PricedOrders, colour_of}
+use Rattle.colour_tables.specs.declared.colour_rows.Rows.{Rows}
 use Rattle.colour_tables.specs.declared.slab.Own.TheVariants.{Bare, Free, One, Two, Full}
+use Rattle.colour_tables.specs.declared.slabs.Runs.{Runs}
 use Rattle.colour_tables.proofs.ColoursPaid.{name-held, but-more}
 use Rattle.colour_tables.proofs.RowsFilled.{held-get}
 use Rattle.colour_tables.proofs.SlacksFromTables.{holds-first}
@@ -140,16 +143,124 @@ module _ (rest : List Order) (colours : List ℕ)
               (absent b k i l))
         ]
 
+pub two-long : (n : ℕ) → 0 < n → n ≤ 2 → n ≢ 1 → n ≡ 2
+two-long zero h k m = absurd (omega arith)
+two-long (suc zero) h k m = absurd (m refl)
+two-long (suc (suc zero)) h k m = refl
+two-long (suc (suc (suc n))) h k m = absurd (omega arith)
+
 -- a number that stands nowhere in a list
-pub lacks-all : (xs : List ℕ) (x : ℕ) → ((k : ℕ) → k < length xs → get_or xs k 0 ≢ x) →
+lacks-all : (xs : List ℕ) (x : ℕ) → ((k : ℕ) → k < length xs → get_or xs k 0 ≢ x) →
     holds x xs ≡ false
 lacks-all [] x h = refl
 lacks-all (y ∷ xs) x h =
     let e : eqb x y ≡ false = ne_eqb x y (λ q. h 0 (omega arith) (sym q)) in
     rw e (lacks-all xs x (λ k b. h (suc k) (omega arith)))
 
-pub two-long : (n : ℕ) → 0 < n → n ≤ 2 → n ≢ 1 → n ≡ 2
-two-long zero h k m = absurd (omega arith)
-two-long (suc zero) h k m = absurd (m refl)
-two-long (suc (suc zero)) h k m = refl
-two-long (suc (suc (suc n))) h k m = absurd (omega arith)
+-- where a search ended
+pub at-place : (colours : List ℕ) (colour c : ℕ) → c < length colours →
+    get_or colours c 0 ≡ colour → IsPlaceOf colours colour (Some c)
+at-place colours colour c here is = record {
+  found = λ d e. subst (λ n. n < length colours) (same d e) here;
+  is = λ d e. subst (λ n. get_or colours n 0 ≡ colour) (same d e) is;
+  none = λ e. absurd (some-none e);
+}
+  where
+    same : (d : ℕ) → Some c ≡ Some d → c ≡ d
+    same d e = cc
+
+    some-none : Some c ≡ None → ⊥
+    some-none e = cc
+
+pub at-no-place : (colours : List ℕ) (colour : ℕ) →
+    ((k : ℕ) → k < length colours → get_or colours k 0 ≢ colour) → IsPlaceOf colours colour None
+at-no-place colours colour other = record {
+  found = λ d e. absurd (none-some d e);
+  is = λ d e. absurd (none-some d e);
+  none = λ _. lacks-all colours colour other;
+}
+  where
+    none-some : (d : ℕ) → None ≡ Some d → ⊥
+    none-some d e = cc
+
+-- What the tables hold inside is what is seen of them, so what a search found among the colours
+-- inside says by which number, if any, the tables know a colour.
+module _ {inside orders : PricedOrders} {runs : Runs} {rows : Rows} {paid : List ℤ}
+    (are : AreTables inside runs rows paid) (is : inside ≡ orders) where
+  known : (i : ℕ) → i < length inside.rest →
+      holds (colour_at inside.rest i)
+      (map (λ c. get_or inside.colours c 0) (below (length inside.colours))) ≡ true
+  known = subst (λ xs. (i : ℕ) → i < length inside.rest →
+      holds (colour_at inside.rest i) (map (λ c. get_or inside.colours c 0) xs) ≡ true)
+      are.present are.row_tables.all
+
+  module _ {list : List ℕ} (here : list ≡ inside.colours) where
+    place-inside : {colour : ℕ} {place : Option ℕ} → IsPlaceOf list colour place →
+        IsPlaceOf inside.colours colour place
+    place-inside {colour} {place} found = subst (λ xs. IsPlaceOf xs colour place) here found
+
+    -- each order has a colour of the tables
+    pub order-known : (i : ℕ) (order : Order) → i < length orders.rest →
+        order ≡ get_or orders.rest i nobody → IsPlaceOf list order.colour None → ⊥
+    order-known i order below is_order found =
+        let within : i < length inside.rest =
+        subst (λ (o : PricedOrders). i < length o.rest) (sym is) below in
+        let same : order ≡ get_or inside.rest i nobody =
+        subst (λ (o : PricedOrders). order ≡ get_or o.rest i nobody) (sym is) is_order in
+        let x : ℕ = colour_at inside.rest i in
+        clash (eqb x x) (eq-eqb x x refl)
+        (absent inside.rest inside.colours known x
+        (subst (λ (o : Order). holds o.colour inside.colours ≡ false) same
+        ((place-inside found).none refl)) i within)
+
+    pub place-held : {colour : ℕ} {place : Option ℕ} (c : ℕ) → IsPlaceOf list colour place →
+        place ≡ Some c → holds c (below (length orders.colours)) ≡ true
+    place-held c found at =
+        subst (λ (o : PricedOrders). holds c (below (length o.colours)) ≡ true) is
+        (below-holds c (length inside.colours) ((place-inside found).found c at))
+
+    pub bare-known : {slab : List ℕ} {place : Option ℕ} → length slab ≡ 1 →
+        IsPlaceOf list (get_or slab 0 0) place → place ≡ None →
+        IsOwn orders.rest (colour_of orders) slab Bare
+    bare-known {slab} one found nowhere =
+        subst (λ (o : PricedOrders). IsOwn o.rest (colour_of o) slab Bare) is
+        (own-bare inside.rest inside.colours known slab one
+        ((place-inside found).none nowhere))
+
+  -- of two colours
+  module _ {list others : List ℕ} (here : list ≡ inside.colours) (there : others ≡ inside.colours)
+      (slab : List ℕ) {first second : Option ℕ} (some : 0 < length slab) (few : length slab ≤ 2)
+      (not_one : length slab ≢ 1) (apart : length slab ≡ different slab)
+      (one : IsPlaceOf list (get_or slab 0 0) first)
+      (other : IsPlaceOf others (get_or slab 1 0) second) where
+    two : length slab ≡ 2
+    two = two-long (length slab) some few not_one
+
+    pub two-held : (c d : ℕ) → first ≡ Some c → second ≡ Some d →
+        IsHeld (below (length orders.colours)) (Two c d)
+    two-held c d p q =
+        subst (λ (o : PricedOrders). IsHeld (below (length o.colours)) (Two c d)) is
+        (held-two inside.rest inside.colours known slab two apart c d
+        ((place-inside here one).is c p) ((place-inside there other).is d q)
+        ((place-inside here one).found c p) ((place-inside there other).found d q))
+
+    pub first-known : (c : ℕ) → first ≡ Some c → second ≡ None →
+        IsOwn orders.rest (colour_of orders) slab (One c)
+    first-known c p q =
+        subst (λ (o : PricedOrders). IsOwn o.rest (colour_of o) slab (One c)) is
+        (own-first inside.rest inside.colours known slab two apart c
+        ((place-inside here one).is c p) ((place-inside there other).none q))
+
+    pub second-known : (d : ℕ) → first ≡ None → second ≡ Some d →
+        IsOwn orders.rest (colour_of orders) slab (One d)
+    second-known d p q =
+        subst (λ (o : PricedOrders). IsOwn o.rest (colour_of o) slab (One d)) is
+        (own-second inside.rest inside.colours known slab two apart d
+        ((place-inside there other).is d q) ((place-inside here one).none p))
+
+    pub neither-known : first ≡ None → second ≡ None →
+        IsOwn orders.rest (colour_of orders) slab Full
+    neither-known p q =
+        subst (λ (o : PricedOrders). IsOwn o.rest (colour_of o) slab Full) is
+        (own-full inside.rest inside.colours known slab two apart ((place-inside here one).none p)
+        ((place-inside there other).none q))

@@ -22,7 +22,7 @@ use Rattle.set_minima.specs.Cells.{IsSmall}
 use Rattle.set_minima.specs.Joins.{IsSlab}
 use Rattle.set_minima.proofs.Gains.{gain-within}
 use Rattle.colour_tables.specs.Entries.{AreSmallAll}
-use Rattle.colour_tables.specs.Leasts.{slack_limit}
+use Rattle.colour_tables.specs.Leasts.{table_slack_limit}
 use Rattle.colour_tables.proofs.PricesSet.{small-set}
 use Rattle.colour_tables.specs.Owned.{IsOwn}
 use Rattle.colour_tables.specs.PricedOrders.{PricedOrders, IsKnown, StandsFor, colour_of}
@@ -40,7 +40,7 @@ charge-within table l = elim (cases_lt l (length table.list)) [
 module _ (table : ChargeTable) (rest : List Order) (prices : List ℤ)
     (few : length prices ≤ MAX_ORDERS) (priced : AreSmallAll prices) where
   pub slack-within : (group : List Order) (marks : List Bool) →
-      IsSmall slack_limit (slack (charge_of table) group rest prices marks)
+      IsSmall table_slack_limit (slack (charge_of table) group rest prices marks)
   slack-within group marks =
       let base : ℕ = load (group ++ chosen marks rest) in
       let g = gain-within MAX_PRICE MAX_CHARGE (λ l. charge_of table base) 0 rest prices marks
@@ -50,33 +50,34 @@ module _ (table : ChargeTable) (rest : List Order) (prices : List ℤ)
     where
       turned : (n : ℕ) (s c : ℤ) → n ≤ MAX_ORDERS →
           neg_ℤ (pos (n * MAX_PRICE + 60 * MAX_CHARGE)) ≤ℤ (s -ℤ c) →
-          (s -ℤ c) ≤ℤ pos (n * MAX_PRICE + 60 * MAX_CHARGE) → IsSmall slack_limit (c -ℤ s)
+          (s -ℤ c) ≤ℤ pos (n * MAX_PRICE + 60 * MAX_CHARGE) → IsSmall table_slack_limit (c -ℤ s)
       turned n s c few low high = (omega (arith, ints), omega (arith, ints))
 
   -- over all legal sets, and over those that pass a test
   pub least_slack-within : (mill : Mill) (group : List Order) →
-      IsSmall slack_limit (least_slack mill (charge_of table) group rest prices)
+      IsSmall table_slack_limit (least_slack mill (charge_of table) group rest prices)
   least_slack-within mill group =
       elim (least-in (slack (charge_of table) group rest prices [])
       (map (slack (charge_of table) group rest prices) (legal_sets mill group rest))) [
-        | inl e ↦ subst (IsSmall slack_limit) (sym e) (slack-within group [])
+        | inl e ↦ subst (IsSmall table_slack_limit) (sym e) (slack-within group [])
         | inr i ↦ (let r = Among-unmap (slack (charge_of table) group rest prices)
             (least_slack mill (charge_of table) group rest prices) (legal_sets mill group rest) i in
-            subst (IsSmall slack_limit) (sym r.2) (slack-within group r.0))
+            subst (IsSmall table_slack_limit) (sym r.2) (slack-within group r.0))
       ]
 
   pub least_of-within : (mill : Mill) (group : List Order) (test : List Bool → Bool) →
-      IfSome (least_of (slacks mill (charge_of table) group rest prices test)) (IsSmall slack_limit)
+      IfSome (least_of (slacks mill (charge_of table) group rest prices test))
+      (IsSmall table_slack_limit)
   least_of-within mill group test =
       within (slacks mill (charge_of table) group rest prices test)
       (λ x i. let r = from-slacks mill (charge_of table) group rest prices test x i in
-      subst (IsSmall slack_limit) (sym r.3) (slack-within group r.0))
+      subst (IsSmall table_slack_limit) (sym r.3) (slack-within group r.0))
     where
-      within : (xs : List ℤ) → ((x : ℤ) → Among x xs → IsSmall slack_limit x) →
-          IfSome (least_of xs) (IsSmall slack_limit)
+      within : (xs : List ℤ) → ((x : ℤ) → Among x xs → IsSmall table_slack_limit x) →
+          IfSome (least_of xs) (IsSmall table_slack_limit)
       within [] h = tt
       within (x ∷ xs) h = elim (least-in x xs) [
-        | inl e ↦ subst (IsSmall slack_limit) (sym e) (h x (inl refl))
+        | inl e ↦ subst (IsSmall table_slack_limit) (sym e) (h x (inl refl))
         | inr i ↦ h (least x xs) (inr i)
       ]
 
@@ -86,18 +87,18 @@ module _ (table : ChargeTable) (rest : List Order) (prices : List ℤ)
     (group : List Order) (test : List Bool → Bool) (x : ℤ) where
   pub small-some :
       least_of (slacks mill (charge_of table) group rest (set prices j (pos 0)) test) ≡ Some x →
-      IsSmall slack_limit x
+      IsSmall table_slack_limit x
   small-some e =
       let n : length (set prices j (pos 0)) ≤ MAX_ORDERS =
       subst (λ n. n ≤ MAX_ORDERS) (sym (length-set prices j (pos 0))) few in
-      subst (λ found. IfSome found (IsSmall slack_limit)) e
+      subst (λ found. IfSome found (IsSmall table_slack_limit)) e
       (least_of-within table rest (set prices j (pos 0)) n
       (small-set prices j (pos 0) priced (omega (arith, ints), omega (arith, ints))) mill group
       test)
 
   pub small-from :
       least_of (slacks mill (charge_of table) group rest (set prices j (pos 0)) test)
-      ≡ Some (x -ℤ pos 0) → IsSmall slack_limit x
+      ≡ Some (x -ℤ pos 0) → IsSmall table_slack_limit x
   small-from e = small-some (e ∙ ap Some (plain x))
     where
       plain : (x : ℤ) → x -ℤ pos 0 ≡ x

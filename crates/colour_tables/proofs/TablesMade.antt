@@ -11,9 +11,8 @@ use Rattle.set_minima.specs.Packs.{colour_at}
 use Rattle.set_minima.specs.Joins.{AreOrders}
 use Rattle.colour_tables.specs.Entries.{AreSmallAll, entry}
 use Rattle.colour_tables.specs.Threes.{once}
-use Rattle.colour_tables.specs.Stretches.{IsByColour, AreStretches, AreColours, AreItems}
+use Rattle.colour_tables.specs.Stretches.{AreOfOrders}
 use Rattle.colour_tables.specs.Owned.{AreRuns, AreRunsSafe}
-use Rattle.colour_tables.specs.declared.by_colour.Coloured.{Coloured}
 use Rattle.colour_tables.specs.declared.slabs.Runs.{Runs}
 use Rattle.colour_tables.proofs.ColoursPaid.{once-names}
 use Rattle.colour_tables.proofs.RowsLaidOut.{all-small}
@@ -26,13 +25,25 @@ pub prices-small : (prices : List ℤ) → All IsPrice prices → AreSmallAll pr
 prices-small prices h =
     all-small prices (λ k b. let p : IsPrice (entry prices k) = h k _ b in (p.0, p.1))
 
+-- there are at most as many runs, and colours, as orders
+module _ (rest : List Order) (prices : List ℤ) (few : length rest ≤ MAX_ORDERS) (runs : Runs)
+    (colours : List ℕ)
+    (made : AreOfOrders rest prices runs.items.items runs.ends.items colours) where
+  pub few-runs : length runs.ends.items ≤ MAX_ORDERS
+  few-runs =
+      let fewer : length runs.ends.items ≤ length made.sorted =
+      few-stretches made.sorted runs.ends.items made.stretches in
+      let each : length made.sorted ≡ length rest = made.by_colour.count in
+      omega arith
+
+  pub few-colours : length colours ≤ MAX_ORDERS
+  few-colours = (let one_each = made.coloured.count in let fewer = few-runs in omega arith)
+
 module _ (rest : List Order) (prices : List ℤ) (few : length rest ≤ MAX_ORDERS)
     (orders : AreOrders rest)
     (same : length prices ≡ length rest) (small : AreSmallAll prices)
-    (sorted : List Coloured) (by : IsByColour rest sorted) (runs : Runs)
-    (st : AreStretches sorted (length sorted) runs.ends.items) (colours : List ℕ)
-    (co : AreColours sorted runs.ends.items colours)
-    (it : AreItems rest prices sorted runs.items.items) (present : List ℕ)
+    (runs : Runs) (colours : List ℕ)
+    (made : AreOfOrders rest prices runs.items.items runs.ends.items colours) (present : List ℕ)
     (is : present ≡ below (length runs.ends.items)) where
   abbrev name : ℕ → ℕ
   name c = get_or colours c 0
@@ -41,34 +52,31 @@ module _ (rest : List Order) (prices : List ℤ) (few : length rest ≤ MAX_ORDE
   inside c h =
       holds-below-lt c (length runs.ends.items) (subst (λ xs. holds c xs ≡ true) is h)
 
-  pub made-few : length runs.ends.items ≤ MAX_ORDERS
-  made-few =
-      let a : length runs.ends.items ≤ length sorted = few-stretches sorted runs.ends.items st in
-      let b : length sorted ≡ length rest = by.count in
-      omega arith
-
   pub made-safe : AreRunsSafe present runs
   made-safe c h =
       let b = inside c h in
-      let w = within rest prices same sorted by runs.ends.items st colours co runs.items.items it c
+      let w = within rest prices same made.sorted made.by_colour runs.ends.items
+      made.stretches colours made.coloured runs.items.items made.priced c
       b in
       record {
         here = b;
         order = w.0;
         ends = w.1;
-        small = run-small rest prices same sorted by runs.ends.items st colours co
-            runs.items.items it c b few orders small;
+        small = run-small rest prices same made.sorted made.by_colour runs.ends.items
+            made.stretches colours made.coloured runs.items.items made.priced c b few orders small;
       }
 
   pub made-runs : AreRuns rest prices name present runs
   made-runs c h =
-      run-is rest prices same sorted by runs.ends.items st colours co runs.items.items it c
+      run-is rest prices same made.sorted made.by_colour runs.ends.items
+      made.stretches colours made.coloured runs.items.items made.priced c
       (inside c h)
 
   names : once (map name present) ≡ true
   names =
       subst (λ xs. once (map name xs) ≡ true) (sym is)
-      (colours-once rest prices same sorted by runs.ends.items st colours co runs.items.items it)
+      (colours-once rest prices same made.sorted made.by_colour runs.ends.items
+      made.stretches colours made.coloured runs.items.items made.priced)
 
   pub made-names : once (map name present) ≡ true
   made-names = names
@@ -79,7 +87,8 @@ module _ (rest : List Order) (prices : List ℤ) (few : length rest ≤ MAX_ORDE
   pub made-all : (i : ℕ) → i < length rest → holds (colour_at rest i) (map name present) ≡ true
   made-all i h =
       subst (λ xs. holds (colour_at rest i) (map name xs) ≡ true) (sym is)
-      (colours-all rest prices same sorted by runs.ends.items st colours co runs.items.items it i h)
+      (colours-all rest prices same made.sorted made.by_colour runs.ends.items
+      made.stretches colours made.coloured runs.items.items made.priced i h)
 
   pub made-present : present ≡ below (length colours)
-  made-present = is ∙ ap below (sym co.count)
+  made-present = is ∙ ap below (sym made.coloured.count)

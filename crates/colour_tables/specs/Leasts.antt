@@ -18,8 +18,8 @@ IsLeast rest prices charge largest base allowed own least =
     (found (neg_ℤ least))
 
 -- what a slack comes to at most, above 0 or below: the prices of all orders and one charge
-abbrev pub slack_limit : ℕ
-slack_limit = all_prices + 60 * MAX_CHARGE
+abbrev pub table_slack_limit : ℕ
+table_slack_limit = all_prices + 60 * MAX_CHARGE
 
 -- a table reaches to the room of a slab
 pub record IsRoom (largest base n : ℕ) : Type 0 where

@@ -1,6 +1,7 @@
 -- Orders to come with their prices, as clauses see the tables of their sets; and what a slab and an
 -- order in its turn are to these tables.
-use Rattle.std.specs.Prelude.{ℕ, ◌+◌, ◌≤◌, ◌≡◌, true, List, length, ℤ, slice_index_or}
+use Rattle.std.specs.Prelude.{ℕ, ◌+◌, ◌<◌, ◌≤◌, ◌≡◌, true, false, List, length, Option, Some, None}
+use Rattle.std.specs.Prelude.{ℤ, slice_index_or}
 use Rattle.list_laws.specs.Sets.{holds, below, different}
 use Rattle.mill_model.specs.Charges.{ChargeTable, charge_of}
 use Rattle.mill_model.specs.declared.order.Order.{Order}
@@ -47,6 +48,12 @@ pub record AreTables (orders : PricedOrders) (runs : Runs) (rows : Rows) (paid :
     pub reach : length paid ≡ orders.largest + 1
     pub charged : AreCharged (charge_of orders.charges) 0 (orders.largest + 1) paid
     pub small : AreSmallAll paid
+
+-- where a colour stands among some colours, if it is one of them
+pub record IsPlaceOf (colours : List ℕ) (colour : ℕ) (place : Option ℕ) : Type 0 where
+  pub found : (c : ℕ) → place ≡ Some c → c < length colours
+  pub is : (c : ℕ) → place ≡ Some c → slice_index_or colours c 0 ≡ colour
+  pub none : place ≡ None → holds colour colours ≡ false
 
 -- a slab with room, whose colours are known by their numbers
 pub record IsKnown (orders : PricedOrders) (slab : Slab) : Type 0 where

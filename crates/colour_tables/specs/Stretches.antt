@@ -72,3 +72,12 @@ pub record AreItems (rest : List Order) (prices : List ℤ) (sorted : List Colou
   pub priced :
       (t : ℕ) → t < length sorted →
       (item_at items t).price ≡ slice_index_or prices (coloured_at sorted t).place (pos 0)
+
+-- the items, their stretches and the colours of these come from the same sorting of the orders
+pub record AreOfOrders (rest : List Order) (prices : List ℤ) (items : List Item)
+    (ends : List (ℕ × ℕ)) (colours : List ℕ) : Type 0 where
+  pub sorted : List Coloured
+  pub by_colour : IsByColour rest sorted
+  pub stretches : AreStretches sorted (length sorted) ends
+  pub coloured : AreColours sorted ends colours
+  pub priced : AreItems rest prices sorted items

@@ -13,7 +13,7 @@ ghost use Rattle.set_minima.specs.Cells.{IsSmall};
 ghost use Rattle.set_minima.specs.Joins.{AreOrders};
 ghost use Rattle.set_minima.specs.Packs.{with_price};
 ghost use Rattle.colour_tables.specs.Grouped.{AreGroups, AreKnown, IsGroup, with_price_at};
-ghost use Rattle.colour_tables.specs.Leasts.{slack_limit, two_colours};
+ghost use Rattle.colour_tables.specs.Leasts.{table_slack_limit, two_colours};
 ghost use Rattle.colour_tables.specs.PricedOrders.{IsTurnOf};
 
 use crate::slab::Slab;
@@ -134,7 +134,7 @@ impl<'a> ColourTables<'a> {
     pub fn least_new(&mut self) -> Option<i64>
         ensures is { result ≡ least_new self.old.mill (charge_of self.old.charges)
             self.old.orders self.old.prices }
-        ensures small { IfSome result (IsSmall slack_limit) }
+        ensures small { IfSome result (IsSmall table_slack_limit) }
         ensures kept { self.new ≡ self.old }
     {
         self.tables.least_new(&mut self.work)
@@ -146,7 +146,7 @@ impl<'a> ColourTables<'a> {
         ensures is { (group : List Order) → IsGroup self.old g group → result ≡
             least_slack self.old.mill (charge_of self.old.charges) group self.old.orders
             self.old.prices }
-        ensures small { IsSmall slack_limit result }
+        ensures small { IsSmall table_slack_limit result }
         ensures kept { self.new ≡ self.old }
     {
         self.tables.least_on(&mut self.work, self.slabs[g])
@@ -158,7 +158,7 @@ impl<'a> ColourTables<'a> {
         requires here { i < length self.old.orders }
         ensures is { (price : ℤ) → least_new_with self.old.mill (charge_of self.old.charges)
             self.old.orders (set self.old.prices i price) i ≡ with_price (neg_ℤ price) result }
-        ensures small { IfSome result (IsSmall slack_limit) }
+        ensures small { IfSome result (IsSmall table_slack_limit) }
         ensures kept { self.new ≡ self.old }
     {
         ready_turn(&self.tables, &mut self.turn, self.in_turn, i);
@@ -174,7 +174,7 @@ impl<'a> ColourTables<'a> {
         ensures is { (price : ℤ) → (group : List Order) → IsGroup self.old g group →
             least_on_with self.old.mill (charge_of self.old.charges) group self.old.orders
             (set self.old.prices i price) i ≡ with_price (neg_ℤ price) result }
-        ensures small { IfSome result (IsSmall slack_limit) }
+        ensures small { IfSome result (IsSmall table_slack_limit) }
         ensures kept { self.new ≡ self.old }
     {
         ready_turn(&self.tables, &mut self.turn, self.in_turn, i);
@@ -195,7 +195,7 @@ impl<'a> ColourTables<'a> {
         ensures none { (price : ℤ) → (group : List Order) → IsGroup self.old g group →
             IfNone result (least_on_with self.old.mill (charge_of self.old.charges) group
             self.old.orders (set self.old.prices i price) i ≡ None) }
-        ensures small { IfSome result (IsSmall slack_limit) }
+        ensures small { IfSome result (IsSmall table_slack_limit) }
         ensures kept { self.new ≡ self.old }
     {
         ready_turn(&self.tables, &mut self.turn, self.in_turn, i);

@@ -11,7 +11,7 @@ ghost use Rattle.set_minima.specs.Joins.{IsSlab};
 ghost use Rattle.colour_tables.specs.Leasts.{two_colours};
 ghost use Rattle.colour_tables.specs.Owned.{IsHeld, IsOwn, MayTake};
 ghost use Rattle.colour_tables.specs.PricedOrders.{IsKnown, StandsFor, IsTurnOf, MayJoin};
-ghost use Rattle.colour_tables.specs.PricedOrders.{colour_of};
+ghost use Rattle.colour_tables.specs.PricedOrders.{colour_of, IsPlaceOf};
 
 use crate::slab::{Own, Slab};
 use crate::slabs;
@@ -20,9 +20,7 @@ use crate::turn::Turn;
 
 /// Where a colour stands among some colours.
 fn find_colour(colours: &[u16], colour: u16) -> Option<usize>
-    ensures found { (c : ℕ) → result ≡ Some c → c < length colours.now }
-    ensures is { (c : ℕ) → result ≡ Some c → slice_index_or colours.now c 0 ≡ colour }
-    ensures none { result ≡ None → holds colour colours.now ≡ false }
+    ensures { IsPlaceOf colours.now colour result }
 {
     for c in 0..colours.len() {
         if colours[c] == colour {

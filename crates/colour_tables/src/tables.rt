@@ -15,7 +15,7 @@ ghost use Rattle.set_minima.specs.Joins.{AreOrders, IsSlab};
 ghost use Rattle.set_minima.specs.Packs.{nobody};
 ghost use Rattle.set_minima.specs.Packs.{with_price};
 ghost use Rattle.set_minima.specs.Cells.{IsSmall};
-ghost use Rattle.colour_tables.specs.Leasts.{two_colours, slack_limit};
+ghost use Rattle.colour_tables.specs.Leasts.{two_colours, table_slack_limit};
 ghost use Rattle.colour_tables.specs.PricedOrders.{IsKnown, StandsFor, IsTurnOf, MayJoin};
 
 use crate::colour_rows::Rows;
@@ -73,7 +73,7 @@ impl<'a> OrderTables<'a> {
         ensures is { (group : List Order) → StandsFor self.now group slab → result ≡
             least_slack (two_colours self.now.largest) (charge_of self.now.charges) group
             self.now.rest self.now.prices }
-        ensures small { IsSmall slack_limit result }
+        ensures small { IsSmall table_slack_limit result }
     {
         let room = self.largest - slab.load + 1;
         let charges = &self.paid[slab.load..];
@@ -96,7 +96,7 @@ impl<'a> OrderTables<'a> {
         ensures is { (price : ℤ) → least_new_with (two_colours self.now.largest)
             (charge_of self.now.charges) self.now.rest (set self.now.prices turn.now.place price)
             turn.now.place ≡ Some (result -ℤ price) }
-        ensures small { IsSmall slack_limit result }
+        ensures small { IsSmall table_slack_limit result }
     {
         let weight = self.order(turn.place).weight as usize;
         slabs::least_new_with(
@@ -113,7 +113,7 @@ impl<'a> OrderTables<'a> {
         ensures is { (price : ℤ) → least_new_with (two_colours self.now.largest)
             (charge_of self.now.charges) self.now.rest (set self.now.prices turn.now.place price)
             turn.now.place ≡ with_price (neg_ℤ price) result }
-        ensures small { IfSome result (IsSmall slack_limit) }
+        ensures small { IfSome result (IsSmall table_slack_limit) }
     {
         if self.order(turn.place).weight as usize <= self.largest {
             Some(self.least_fitting(turn))
@@ -132,7 +132,7 @@ impl<'a> OrderTables<'a> {
             least_on_with (two_colours self.now.largest) (charge_of self.now.charges) group
             self.now.rest (set self.now.prices turn.now.place price) turn.now.place
             ≡ Some (result -ℤ price) }
-        ensures small { IsSmall slack_limit result }
+        ensures small { IsSmall table_slack_limit result }
     {
         let load = slab.load + self.order(turn.place).weight as usize;
         let room = self.largest - load + 1;
@@ -156,7 +156,7 @@ impl<'a> OrderTables<'a> {
             least_on_with (two_colours self.now.largest) (charge_of self.now.charges) group
             self.now.rest (set self.now.prices turn.now.place price) turn.now.place
             ≡ with_price (neg_ℤ price) result }
-        ensures small { IfSome result (IsSmall slack_limit) }
+        ensures small { IfSome result (IsSmall table_slack_limit) }
     {
         if self.can_join(slab, turn) {
             Some(self.least_joined(work, slab, turn))
@@ -175,7 +175,7 @@ impl<'a> OrderTables<'a> {
             least_on_without (two_colours self.now.largest) (charge_of self.now.charges) group
             self.now.rest (set self.now.prices turn.now.place price) turn.now.place
             ≡ Some result }
-        ensures small { IsSmall slack_limit result }
+        ensures small { IsSmall table_slack_limit result }
     {
         let room = self.largest - slab.load + 1;
         slabs::least_without(
@@ -188,8 +188,8 @@ impl<'a> OrderTables<'a> {
         )
     }
 
-    /// The least slack of a slab over all sets that may join it without the order in its turn,
-    /// where that order can join the slab; else None.
+    /// The least slack of a slab over all sets that may join it without the order in its turn.
+    /// Where there is none, that order can't join the slab.
     pub(crate) fn least_on_without(&self, work: &mut [i64], slab: Slab, turn: &Turn) -> Option<i64>
         requires known { IsKnown self.now slab }
         requires turn { IsTurnOf self.now turn.now }
@@ -202,7 +202,7 @@ impl<'a> OrderTables<'a> {
             IfNone result (least_on_with (two_colours self.now.largest)
             (charge_of self.now.charges) group self.now.rest
             (set self.now.prices turn.now.place price) turn.now.place ≡ None) }
-        ensures small { IfSome result (IsSmall slack_limit) }
+        ensures small { IfSome result (IsSmall table_slack_limit) }
     {
         if self.can_join(slab, turn) {
             Some(self.least_parted(work, slab, turn))
@@ -216,7 +216,7 @@ impl<'a> OrderTables<'a> {
         requires work { length work.old ≡ self.now.largest + 1 }
         ensures is { result ≡ least_new (two_colours self.now.largest) (charge_of self.now.charges)
             self.now.rest self.now.prices }
-        ensures small { IfSome result (IsSmall slack_limit) }
+        ensures small { IfSome result (IsSmall table_slack_limit) }
     {
         slabs::least_new(&self.rows, &self.runs, work, &self.paid)
     }

@@ -11,6 +11,7 @@ ghost use Rattle.set_minima.specs.Joins.{AreOrders};
 ghost use Rattle.colour_tables.specs.Entries.{AreSmallAll};
 ghost use Rattle.colour_tables.specs.Leasts.{AreCharged};
 ghost use Rattle.colour_tables.specs.Rowed.{IsSized};
+ghost use Rattle.colour_tables.specs.Stretches.{AreOfOrders};
 ghost use Rattle.colour_tables.specs.Threes.{once};
 
 use crate::by_colour::{priced_items, sort_by_colour, stretch_colours, stretches};
@@ -66,6 +67,19 @@ fn paid_charges(alloc: Global, charges: &Charges, largest: u32) -> Result<Vec<i6
     Ok(paid)
 }
 
+/// The orders' items by colour, and the colours of their runs.
+fn runs_of(alloc: Global, rest: &[Order], prices: &[i64]) -> Result<(Runs, Vec<u16>), OutOfMemory>
+    requires { length prices.now ≡ length rest.now }
+    ensures { IfOk result (λ made. AreOfOrders rest.now prices.now made.0.items.items
+        made.0.ends.items made.1.items) }
+{
+    let sorted = sort_by_colour(alloc, rest)?;
+    let ends = stretches(alloc, &sorted)?;
+    let colours = stretch_colours(alloc, &sorted, &ends)?;
+    let items = priced_items(alloc, rest, prices, &sorted)?;
+    Ok((Runs { items, ends }, colours))
+}
+
 impl<'a> OrderTables<'a> {
     /// The tables of some orders with a price for each, for the slabs of a mill with a largest size
     /// whose loads are charged as `charges` says.
@@ -91,11 +105,7 @@ impl<'a> OrderTables<'a> {
         let kept_orders = rest.to_vec(alloc)?;
         let kept_prices = prices.to_vec(alloc)?;
         let paid = paid_charges(alloc, charges, largest)?;
-        let sorted = sort_by_colour(alloc, rest)?;
-        let ends = stretches(alloc, &sorted)?;
-        let colours = stretch_colours(alloc, &sorted, &ends)?;
-        let items = priced_items(alloc, rest, prices, &sorted)?;
-        let runs = Runs { items, ends };
+        let (runs, colours) = runs_of(alloc, rest, prices)?;
         let mut rows = empty_rows(alloc, runs.ends.len(), largest as usize + 1)?;
         rows.fill(&runs);
         Ok(OrderTables {

@@ -1,5 +1,5 @@
-// The least slacks at a node under prices that change one at a time. Only this file knows how they
-// are found.
+// The least slacks at a node under prices that change one at a time. Only this file and that of two
+// colours know how they are found.
 
 ghost use Rattle.std.specs.Prelude.{◌≡◌, ◌+◌, ◌<◌, length, set, IfOk, IfSome};
 ghost use Rattle.mill_model.specs.Bounds.{least_new, least_new_with, least_on_with};

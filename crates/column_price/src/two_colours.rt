@@ -2,7 +2,7 @@
 
 ghost use Rattle.std.specs.Prelude.{◌≡◌, ◌<◌, List, All, length, neg_ℤ, true, IfOk, IfSome};
 ghost use Rattle.colour_tables.specs.Grouped.{IsGroup};
-ghost use Rattle.colour_tables.specs.Leasts.{slack_limit as table_slack_limit};
+ghost use Rattle.colour_tables.specs.Leasts.{table_slack_limit};
 ghost use Rattle.mill_model.specs.Bounds.{least_new_with, least_on_with, least_on_without};
 ghost use Rattle.mill_model.specs.Charges.{Reaches, charge_of};
 ghost use Rattle.mill_model.specs.Limits.{IsPrice};

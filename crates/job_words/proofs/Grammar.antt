@@ -14,6 +14,7 @@ use Rattle.std.specs.Str.Parse.{digits_value}
 use Rattle.std.proofs.lemmas.Slice.Eq.{bytes_eq-Decides}
 use Rattle.job_words.specs.declared.command.Command.{Command}
 use Rattle.job_words.specs.declared.command.Command.TheVariants.{Solve, Prove, Check, Verify}
+use Rattle.job_words.specs.declared.command.Command.TheVariants.{Replay}
 use Rattle.job_words.specs.declared.option.Setting.{Setting}
 use Rattle.job_words.specs.declared.option.Setting.TheVariants.{Workers, Nodes, Colours}
 use Rattle.job_words.specs.declared.option.Setting.TheVariants.{Moves, Seed, Orders}
@@ -58,7 +59,8 @@ name-once s t e =
     some-same s t (sym (name-leads-back s) ∙ ap setting-named e ∙ name-leads-back t)
 
 command-spelt : List ℕ → Option Command
-command-spelt word = find (λ c. bytes_eq (spelling c) word) (Solve ∷ Prove ∷ Check ∷ Verify ∷ [])
+command-spelt word =
+    find (λ c. bytes_eq (spelling c) word) (Solve ∷ Prove ∷ Check ∷ Verify ∷ Replay ∷ [])
 
 spelling-leads-back : (c : Command) → command-spelt (spelling c) ≡ Some c
 unfolding command-spelt
@@ -66,6 +68,7 @@ spelling-leads-back Solve = refl
 spelling-leads-back Prove = refl
 spelling-leads-back Check = refl
 spelling-leads-back Verify = refl
+spelling-leads-back Replay = refl
 
 spelling-once : (c d : Command) → spelling c ≡ spelling d → c ≡ d
 spelling-once c d e =

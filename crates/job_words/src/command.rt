@@ -14,6 +14,8 @@ pub enum Command {
     Check,
     /// Judge an answer's plan and the log that is to show that it is a best one.
     Verify,
+    /// Answer as `prove` does, with workers that take turns as a schedule says.
+    Replay,
 }
 
 /// The commands, in the order of the usage line: None where one is planned only, and nothing but
@@ -23,7 +25,7 @@ pub const COMMANDS: [Row<Option<Command>>; 6] = [
     ("prove", Some(Command::Prove)),
     ("check", Some(Command::Check)),
     ("verify", Some(Command::Verify)),
-    ("replay", None),
+    ("replay", Some(Command::Replay)),
     ("drill", None),
 ];
 
@@ -35,7 +37,7 @@ impl Command {
         ensures { result ≡ limit_of self }
     {
         match self {
-            Command::Solve | Command::Prove => 4_194_304,
+            Command::Solve | Command::Prove | Command::Replay => 4_194_304,
             Command::Check | Command::Verify => 268_435_456,
         }
     }

@@ -29,6 +29,8 @@ pub enum Scope {
     Every,
     /// Those that search.
     Searching,
+    /// The one that replays a schedule.
+    Replaying,
     /// None yet: the option is planned only, and nothing but the usage line has it.
     Planned,
 }
@@ -50,7 +52,7 @@ pub const WORKERS: Rule = Rule {
     least: 1,
     greatest: 64,
     default: 1,
-    scope: Scope::Planned,
+    scope: Scope::Replaying,
 };
 
 /// How many paths a search closes at most.
@@ -118,7 +120,10 @@ impl Command {
     {
         match scope {
             Scope::Every => true,
-            Scope::Searching => matches!(self, Command::Solve | Command::Prove),
+            Scope::Searching => {
+                matches!(self, Command::Solve | Command::Prove | Command::Replay)
+            }
+            Scope::Replaying => matches!(self, Command::Replay),
             Scope::Planned => false,
         }
     }

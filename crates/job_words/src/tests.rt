@@ -21,16 +21,18 @@ fn words_of(alloc: Global, row: &[&str]) -> Result<Vec<String>, OutOfMemory> {
 #[test]
 fn other_words_ask_for_nothing(rt: HostRuntime) -> Result<(), Fail> {
     let alloc = rt.alloc();
-    let rows: [(&[&str], usize); 22] = [
+    let rows: [(&[&str], usize); 26] = [
         (&[], 0),
         (&["SOLVE", "solve"], 0),
-        (&["replay"], 0),
+        (&["replays"], 0),
         (&["drill", "--moves", "1"], 0),
         (&["--colours", "1", "solve"], 0),
         (&["verify", "--nodes", "5"], 1),
         (&["solve", ""], 1),
         (&["solve", "--workers", "1"], 1),
         (&["check", "--moves", "1"], 1),
+        (&["prove", "--workers", "2"], 1),
+        (&["replay", "--seed", "1"], 1),
         (&["solve", "--colours=1"], 1),
         (&["solve", "--nodes"], 2),
         (&["solve", "--nodes", "-1"], 2),
@@ -41,6 +43,8 @@ fn other_words_ask_for_nothing(rt: HostRuntime) -> Result<(), Fail> {
         (&["solve", "--colours", "9", "--bad"], 2),
         (&["solve", "--colours", "+1"], 2),
         (&["solve", "--colours", "18446744073709551617"], 2),
+        (&["replay", "--workers", "0"], 2),
+        (&["replay", "--workers", "65"], 2),
         (&["prove", "--nodes", "1", "--nodes", "1"], 3),
         (&["solve", "--moves", "1", "--moves", "2"], 3),
         (&["check", "--colours", "1", "--nodes", "1"], 3),
@@ -114,6 +118,34 @@ fn right_words_ask_for_a_job(rt: HostRuntime) -> Result<(), Fail> {
             command,
             limits,
             p,
+            seed: 1,
+            orders: 40,
+        };
+        assert_eq!(rt; read_words(&words), Ok(job));
+    }
+    Ok(())
+}
+
+// Each row: words that replay a schedule, and the numbers of workers and nodes that they ask for.
+#[test]
+fn replay_takes_workers(rt: HostRuntime) -> Result<(), Fail> {
+    let rows: [(&[&str], u16, u64); 4] = [
+        (&["replay"], 1, 20_000),
+        (&["replay", "--workers", "64"], 64, 20_000),
+        (&["replay", "--nodes", "7", "--workers", "1"], 1, 7),
+        (&["replay", "--workers", "003", "--nodes", "0"], 3, 0),
+    ];
+    for (row, workers, nodes) in rows {
+        let words = words_of(rt.alloc(), row)?;
+        let limits = Limits {
+            nodes,
+            moves: 1000,
+            workers,
+        };
+        let job = Job {
+            command: Command::Replay,
+            limits,
+            p: 2,
             seed: 1,
             orders: 40,
         };

@@ -1,3 +1,5 @@
+//! Moves from a plan: over the orders by colour, as in the walk, until no pair of slabs can lose
+//! less or so many moves are done.
 ghost use Rattle.std.specs.Prelude.{◌≡◌, ◌+◌, List, IfOk, length, slice_index};
 ghost use Rattle.mill_model.specs.Charges.{Reaches, charge_of};
 ghost use Rattle.mill_model.specs.Plan.{IsPlanWithLoss};

@@ -1,3 +1,4 @@
+//! Room in which a move gathers the orders of its pair, so that moves take no memory.
 ghost use Rattle.std.specs.Prelude.{◌≡◌, length, IfOk};
 
 use mill_model::{Order, OutOfMemory};

@@ -1,3 +1,5 @@
+//! The walk from a plan: it goes over the orders by colour, as an instance of its own, and what it
+//! finds is put back into the file's order.
 ghost use Rattle.std.specs.Prelude.{◌≡◌, ◌<◌, ◌≤◌, ◌+◌, List, IfOk, length, true};
 ghost use Rattle.mill_model.specs.Charges.{Reaches, charge_of};
 ghost use Rattle.mill_model.specs.Instance.{mill_of};
@@ -58,8 +60,7 @@ fn instance_of(
     ensures mill { IfOk result (λ instance. mill_of instance ≡ ranked.now.mill) }
 {
     let largest = ranked.largest();
-    let p = ranked.p();
     let sizes = vec![in alloc; largest]?;
     let orders = orders_alone(alloc, coloured)?;
-    Ok(Instance::new(sizes, 0, orders, p))
+    Ok(Instance::new(sizes, 0, orders, ranked.p()))
 }

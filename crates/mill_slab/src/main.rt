@@ -17,5 +17,7 @@ fn main(rt: HostRuntime) -> ExitCode {
     let Ok(words) = args.skip(1).collect::<Vec<String>>(alloc) else {
         return ExitCode::from(NO_WORDS);
     };
-    ExitCode::from(run_streams(alloc, &words, rt.stdin(), rt.stdout()).status)
+    let mut kept = None;
+    let end = run_streams(alloc, &words, rt.stdin(), rt.stdout(), &mut kept);
+    ExitCode::from(end.status)
 }

@@ -1,5 +1,6 @@
 -- The status and the text of each outcome.
-use Rattle.std.specs.Prelude.{ℕ, List, [], ◌∷◌, ◌++◌, cond}
+use Rattle.std.specs.Prelude.{ℕ, List, [], ◌∷◌, ◌++◌, cond, Option, None}
+use Rattle.refute_log.specs.declared.piece.Run.{Run}
 use Rattle.answer_text.specs.declared.answer.Answer.{Answer}
 use Rattle.answer_text.specs.declared.answer.Answer.TheVariants.{Optimal, Feasible, Infeasible}
 use Rattle.answer_text.specs.Text.{answer_text, most_orders, Fits}
@@ -17,7 +18,7 @@ status_of_answer (Feasible loss plan spent) = FEASIBLE
 
 abbrev pub status_of : Outcome → ℕ
 status_of (Refused why) = REFUSED
-status_of (Solved answer) = status_of_answer answer
+status_of (Solved solution) = status_of_answer solution.answer
 status_of (Judged judgement) = cond (is_accepted judgement) ACCEPTED REJECTED
 
 -- a line of a text, which ends with a line feed
@@ -26,7 +27,7 @@ line words = words ++ 10 ∷ []
 
 abbrev pub text_of : Outcome → List ℕ
 text_of (Refused why) = line (words_of_refusal why)
-text_of (Solved answer) = answer_text answer
+text_of (Solved solution) = answer_text solution.answer
 text_of (Judged judgement) = line (words_of_judgement judgement)
 
 -- the numbers of an answer are within the limits of its text
@@ -36,5 +37,11 @@ IsToldAnswer answer = Fits (most_orders answer) answer
 -- the outcome can be told by its text
 abbrev pub IsToTell : Outcome → Type 0
 IsToTell (Refused why) = Unit {0}
-IsToTell (Solved answer) = IsToldAnswer answer
+IsToTell (Solved solution) = IsToldAnswer solution.answer
 IsToTell (Judged judgement) = Unit {0}
+
+-- the run that is handed out
+abbrev pub run_of : Outcome → Option Run
+run_of (Refused why) = None
+run_of (Solved solution) = solution.run
+run_of (Judged judgement) = None

@@ -7,7 +7,7 @@ use Rattle.answer_text.specs.declared.error.AnswerTextError.{AnswerTextError}
 use Rattle.answer_text.specs.declared.error.AnswerTextError.TheVariants as answer
 use Rattle.reply_text.specs.declared.refusal.Refusal.{Refusal}
 use Rattle.reply_text.specs.declared.refusal.Refusal.TheVariants.{TooLong, Instance, Rest, Answer}
-use Rattle.reply_text.specs.declared.refusal.Refusal.TheVariants.{AnswerKind}
+use Rattle.reply_text.specs.declared.refusal.Refusal.TheVariants.{AnswerKind, Schedule}
 
 -- What is wrong with a text, in the words of the refusal. Want of memory isn't, so it is in no
 -- refusal of a text; it has words only so that each error has some.
@@ -34,6 +34,7 @@ reason_of (Instance why) = codes "instance " ++ reason_in_instance why
 reason_of (Rest at) = codes "rest byte " ++ decimal at
 reason_of (Answer why) = codes "answer " ++ reason_in_answer why
 reason_of AnswerKind = codes "answer kind"
+reason_of (Schedule token) = codes "schedule token " ++ decimal token
 
 abbrev pub words_of_refusal : Refusal → List ℕ
 words_of_refusal why = codes "refused " ++ reason_of why

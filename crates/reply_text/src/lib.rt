@@ -8,6 +8,7 @@ mod line;
 mod outcome;
 mod refusal;
 mod reply;
+mod solution;
 mod status;
 mod stop;
 
@@ -16,6 +17,7 @@ pub use laws::status_numbers;
 pub use outcome::Outcome;
 pub use refusal::Refusal;
 pub use reply::Reply;
+pub use solution::Solution;
 pub use status::{
     ACCEPTED, FEASIBLE, INFEASIBLE, OPTIMAL, OUT_OF_MEMORY, READ_FAULT, REFUSED, REJECTED,
     WRITE_FAULT, WRONG_WORDS,

@@ -1,11 +1,12 @@
 ghost use Rattle.std.specs.Prelude.{◌≡◌, IfOk};
-ghost use Rattle.reply_text.specs.Outcome.{status_of, text_of, IsToTell};
+ghost use Rattle.reply_text.specs.Outcome.{run_of, status_of, status_of_answer, text_of, IsToTell};
 
 use crate::{
-    ACCEPTED, FEASIBLE, INFEASIBLE, Judgement, OPTIMAL, REFUSED, REJECTED, Refusal, Reply,
+    ACCEPTED, FEASIBLE, INFEASIBLE, Judgement, OPTIMAL, REFUSED, REJECTED, Refusal, Reply, Solution,
 };
 use answer_text::{Answer, print_answer};
 use mill_model::OutOfMemory;
+use refute_log::Run;
 use std::alloc::Global;
 
 /// What a job is answered.
@@ -13,8 +14,9 @@ use std::alloc::Global;
 pub enum Outcome {
     /// The input is refused.
     Refused(Refusal),
-    /// A plan that loses least, or one that a bounded search gives, or that there is no legal plan.
-    Solved(Answer),
+    /// A plan that loses least, or one that a bounded search gives and its run, or that there is no
+    /// legal plan.
+    Solved(Solution),
     /// What is said of the answer that was given.
     Judged(Judgement),
 }
@@ -26,9 +28,7 @@ impl Outcome {
     {
         match self {
             Outcome::Refused(_) => REFUSED,
-            Outcome::Solved(Answer::Optimal { .. }) => OPTIMAL,
-            Outcome::Solved(Answer::Infeasible { .. }) => INFEASIBLE,
-            Outcome::Solved(Answer::Feasible { .. }) => FEASIBLE,
+            Outcome::Solved(solution) => answer_status(&solution.answer),
             Outcome::Judged(judgement) if judgement.is_accepted() => ACCEPTED,
             Outcome::Judged(_) => REJECTED,
         }
@@ -46,7 +46,7 @@ impl Outcome {
                 text.push(b'\n')?;
                 Ok(text)
             }
-            Outcome::Solved(answer) => print_answer(alloc, answer),
+            Outcome::Solved(solution) => print_answer(alloc, &solution.answer),
             Outcome::Judged(judgement) => {
                 let mut text = Vec::new(alloc);
                 judgement.push_words(&mut text)?;
@@ -64,5 +64,26 @@ impl Outcome {
     {
         let text = self.text(alloc)?;
         Ok(Reply::new(self.status(), text))
+    }
+
+    /// The run behind an answer, where one is handed out.
+    pub fn into_run(self) -> Option<Run>
+        ensures { result ≡ run_of self }
+    {
+        match self {
+            Outcome::Solved(solution) => solution.run,
+            Outcome::Refused(_) | Outcome::Judged(_) => None,
+        }
+    }
+}
+
+// The status that the program ends with where it writes an answer.
+fn answer_status(answer: &Answer) -> u8
+    ensures { result ≡ status_of_answer answer.now }
+{
+    match answer {
+        Answer::Optimal { .. } => OPTIMAL,
+        Answer::Infeasible { .. } => INFEASIBLE,
+        Answer::Feasible { .. } => FEASIBLE,
     }
 }

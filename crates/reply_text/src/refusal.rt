@@ -21,6 +21,9 @@ pub enum Refusal {
     Answer(AnswerTextError),
     /// The answer has a plan without a log: there is nothing to verify.
     AnswerKind,
+    /// What stands behind the instance is no schedule. Token 0 is its first where that isn't the
+    /// word; else this is the first of the numbers behind it that is none or names no worker.
+    Schedule { token: u64 },
 }
 
 impl Refusal {
@@ -34,6 +37,7 @@ impl Refusal {
             Refusal::Rest { at } => push_named(text, b"refused rest byte ", at as u64),
             Refusal::Answer(why) => push_answer(text, why),
             Refusal::AnswerKind => push_name(text, b"refused answer kind"),
+            Refusal::Schedule { token } => push_named(text, b"refused schedule token ", token),
         }
     }
 }

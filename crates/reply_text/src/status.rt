@@ -15,7 +15,7 @@ pub const WRONG_WORDS: u8 = 2;
 /// The input was refused.
 pub const REFUSED: u8 = 3;
 
-/// A plan was written, and the budget of its search was less than is always enough.
+/// A plan was written, and the budget of its search was spent with a path left.
 pub const FEASIBLE: u8 = 4;
 
 /// A read failed.

@@ -5,6 +5,13 @@ pub mod Lengths
 pub mod Closing
 pub mod Tally
 pub mod Branches
-pub mod Law
+pub mod Notes
+pub mod KeptByEvent
+pub mod KeptByHand
+pub mod KeptByClosing
+pub mod Kept
 pub mod Soundness
-pub mod Honesty
+pub mod SplitRecords
+pub mod OneMoreRecord
+pub mod HonestClosing
+pub mod StaysHonest

@@ -13,6 +13,11 @@ pub record WorkerParts : Type 0 where
   pub workers : ℕ
   pub parts : Parts
 
+-- a worker is one of so many, and its parts are safe
+pub record IsSafeWorker (w : WorkerParts) : Type 0 where
+  pub among : w.number < w.workers
+  pub safe : IsSafe w.ranked w.charges w.workers w.number w.parts
+
 -- what each worker keeps
 pub record IsWorker (w : WorkerParts) : Type 0 where
   pub among : w.number < w.workers

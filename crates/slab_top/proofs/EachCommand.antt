@@ -1,112 +1,171 @@
--- What each command's relation keeps: right outcomes agree, and with a budget that is enough the
--- status isn't that of a feasible plan.
-use Rattle.std.proofs.Common.{◌≡◌, ◌≢◌, ℕ, ◌≤◌, Bool, true, false, cond, List, length}
-use Rattle.std.proofs.Common.{sym, ap, ◌∙◌, subst, arith}
+-- What each command's relation keeps: right outcomes agree, with a budget that is enough the status
+-- isn't that of a feasible plan, and a run is handed out exactly with that status.
+use Rattle.std.proofs.Common.{◌≡◌, ◌≢◌, ℕ, Bool, true, false, cond, List, []}
+use Rattle.std.proofs.Common.{refl, sym, ap, ◌∙◌, subst, arith}
+use Rattle.std.specs.Prelude.{Option, Some, None}
 use Rattle.mill_model.specs.Instance.{Problem}
-use Rattle.mill_model.specs.Size.{enough}
 use Rattle.mill_model.specs.declared.limits.Limits.{Limits}
-use Rattle.instance_text.specs.Text.{IsInstanceText}
+use Rattle.instance_text.specs.Text.{Begins}
 use Rattle.instance_text.proofs.Exact.{begins_once}
 use Rattle.answer_text.specs.declared.answer.Answer.{Answer}
-use Rattle.answer_text.specs.declared.answer.Answer.TheVariants.{Feasible}
+use Rattle.answer_text.specs.declared.answer.Answer.TheVariants.{Optimal, Feasible, Infeasible}
+use Rattle.refute_log.specs.declared.piece.Run.{Run}
 use Rattle.job_words.specs.declared.command.Command.{Command}
 use Rattle.job_words.specs.declared.command.Command.TheVariants as command
 use Rattle.job_words.specs.declared.job.Job.{Job}
 use Rattle.reply_text.specs.declared.judgement.Judgement.{Judgement}
 use Rattle.reply_text.specs.declared.outcome.Outcome.{Outcome}
 use Rattle.reply_text.specs.declared.outcome.Outcome.TheVariants.{Solved, Judged}
+use Rattle.reply_text.specs.declared.solution.Solution.{Solution}
 use Rattle.reply_text.specs.declared.status.TheConstants.{ACCEPTED, FEASIBLE, REJECTED}
 use Rattle.reply_text.specs.Judgement.{is_accepted}
-use Rattle.reply_text.specs.Outcome.{status_of}
-use Rattle.solve_answer.specs.Solved.{IsSolution, IsSolved, IsProved}
+use Rattle.reply_text.specs.Outcome.{status_of, status_of_answer, run_of}
+use Rattle.solve_answer.specs.Solved.{HandsOut, IsSolution, IsSolved, IsProved, IsTold}
 use Rattle.solve_answer.proofs.SolutionsAgree.{solutions-agree}
 use Rattle.judge_answer.specs.Check.{IsSaidOf}
 use Rattle.judge_answer.specs.Verify.{IsVerdictOn}
 use Rattle.judge_answer.proofs.SaidOnce.{said-once, verdict-on-once}
-use Rattle.slab_top.specs.Input.{instance_alone, instance_with_answer, instance_with_proof}
-use Rattle.slab_top.specs.Reply.{Tells}
+use Rattle.slab_top.specs.Input.{Front, front, instance_alone, instance_with_answer}
+use Rattle.slab_top.specs.Input.{instance_with_proof, instance_with_schedule}
+use Rattle.slab_top.specs.Reply.{Replies, Tells}
 use Rattle.slab_top.specs.Served.{Serves}
 use Rattle.slab_top.specs.Solve.{Solves}
 use Rattle.slab_top.specs.Prove.{Proves}
+use Rattle.slab_top.specs.Replay.{Replays}
+use Rattle.slab_top.specs.Run.{IsEnoughFor}
 use Rattle.slab_top.specs.Check.{Checks}
 use Rattle.slab_top.specs.Verify.{Verifies}
 use Rattle.slab_top.specs.Agree.{AgreeOnOutcomes}
 use Rattle.slab_top.proofs.Stages.{alone-decided, with-answer-decided, with-proof-decided}
+use Rattle.slab_top.proofs.Stages.{with-schedule-decided}
 use Rattle.slab_top.proofs.Replying.{tells-agree, replies-agree, replies-otherwise}
+use Rattle.slab_top.proofs.Replying.{HandsOutRun, replies-hand-out}
 
 pub record IsCommand (Serves : Job → List ℕ → Outcome → Type 0) : Type 0 where
   pub agree : (job : Job) (bytes : List ℕ) (a b : Outcome) → Serves job bytes a →
       Serves job bytes b → AgreeOnOutcomes a b
-  pub with_enough : (job : Job) (bytes : List ℕ) (problem : Problem) (a : Outcome) →
-      problem.p ≡ job.p → IsInstanceText bytes problem →
-      enough (length problem.orders) ≤ job.limits.nodes → Serves job bytes a →
-      status_of a ≢ FEASIBLE
+  pub with_enough : (job : Job) (bytes : List ℕ) (problem : Problem) (end : ℕ) (a : Outcome) →
+      problem.p ≡ job.p → Begins bytes problem end → IsEnoughFor job.limits problem →
+      Serves job bytes a → status_of a ≢ FEASIBLE
+  pub hands_out : (job : Job) (bytes : List ℕ) (a : Outcome) → Serves job bytes a → HandsOutRun a
 
 -- ---- commands that answer an instance
 
 -- an answer isn't feasible where the budget is enough
 solution-otherwise : (limits : Limits) (problem : Problem) (answer : Answer) →
-    IsSolution limits problem answer → enough (length problem.orders) ≤ limits.nodes →
-    status_of (Solved answer) ≢ FEASIBLE
-solution-otherwise limits problem (Feasible loss plan spent) right budget e =
-    let small = right.1.small_budget in omega arith
-solution-otherwise limits problem answer right budget e = omega (arith, e)
+    IsSolution limits problem answer → IsEnoughFor limits problem →
+    status_of_answer answer ≢ FEASIBLE
+solution-otherwise limits problem (Feasible loss plan spent) right enough e =
+    let tree = right.1.below_tree in
+    let less = tree.so in
+    omega (arith, less, enough tree.bound tree.is_bound)
+solution-otherwise limits problem answer right enough e = omega (arith, e)
 
--- an input that is an instance's text is read as this instance
-alone-is : (p : ℕ) (bytes : List ℕ) (problem read : Problem) → problem.p ≡ p →
-    IsInstanceText bytes problem → (instance_alone p bytes).Reads read → problem ≡ read
-alone-is p bytes problem read colours text reads =
-    let same = begins_once bytes problem reads.0.problem text.end reads.0.end text.begins
-    reads.1.1 (colours ∙ sym reads.1.0) in
-    same.0 ∙ sym reads.2.0
+-- an input that begins with an instance is read as this instance
+front-is : (p : ℕ) (bytes : List ℕ) (problem : Problem) (end : ℕ) (read : Front) →
+    problem.p ≡ p → Begins bytes problem end → (front p bytes).Reads read →
+    problem ≡ read.problem
+front-is p bytes problem end read colours begins reads =
+    (begins_once bytes problem read.problem end read.end begins reads.1
+    (colours ∙ sym reads.0)).0
+
+-- the run behind an answer is handed out where it is feasible
+answer-run : (limits : Limits) (schedule : List ℕ) (problem : Problem) (answer : Answer)
+    (run : Option Run) → HandsOut limits schedule problem answer run →
+    HandsOutRun (Solved (record { answer = answer; run = run }))
+answer-run limits schedule problem (Feasible loss plan spent) None is = absurd is
+answer-run limits schedule problem (Feasible loss plan spent) (Some run) is = record {
+  feasible = λ e. refl;
+  otherwise = λ other. absurd (other refl);
+}
+answer-run limits schedule problem (Optimal loss plan log) run is = record {
+  feasible = λ e. absurd (omega (arith, e));
+  otherwise = λ other. is;
+}
+answer-run limits schedule problem (Infeasible place) run is = record {
+  feasible = λ e. absurd (omega (arith, e));
+  otherwise = λ other. is;
+}
+
+told-run : (limits : Limits) (schedule : List ℕ) (problem : Problem) (solution : Solution) →
+    IsTold limits schedule problem solution → HandsOutRun (Solved solution)
+told-run limits schedule problem solution told =
+    answer-run limits schedule problem solution.answer solution.run told.run
+
+tells-run : (Is : Solution → Type 0) → ((solution : Solution) → Is solution →
+    HandsOutRun (Solved solution)) → (a : Outcome) → Tells Solved Is a → HandsOutRun a
+tells-run Is run a tells = subst HandsOutRun (sym tells.1) (run tells.0 tells.2)
 
 -- answers of which some fact holds, by which they are right
-module _ (Is : Limits → Problem → Answer → Type 0)
-    (right : (limits : Limits) (problem : Problem) (answer : Answer) → Is limits problem answer →
-    IsSolution limits problem answer) where
+module _ (Is : Limits → Problem → Solution → Type 0)
+    (right : (limits : Limits) (problem : Problem) (solution : Solution) →
+    Is limits problem solution → IsSolution limits problem solution.answer) where
   answers-agree : (limits : Limits) (problem : Problem) (a b : Outcome) →
       Tells Solved (Is limits problem) a → Tells Solved (Is limits problem) b →
       AgreeOnOutcomes a b
   answers-agree limits problem =
-      tells-agree Solved (Is limits problem) (λ s t h k. solutions-agree limits problem s t
-      (right limits problem s h) (right limits problem t k))
+      tells-agree Solved (Is limits problem) (λ s t h k. solutions-agree limits problem s.answer
+      t.answer (right limits problem s h) (right limits problem t k))
 
-  answer-otherwise : (job : Job) (bytes : List ℕ) (problem : Problem) (a : Outcome) →
-      problem.p ≡ job.p → IsInstanceText bytes problem →
-      enough (length problem.orders) ≤ job.limits.nodes → (read : Problem) →
-      (instance_alone job.p bytes).Reads read → Tells Solved (Is job.limits read) a →
+  answer-otherwise : (limits : Limits) (problem read : Problem) (a : Outcome) →
+      problem ≡ read → IsEnoughFor limits problem → Tells Solved (Is limits read) a →
       status_of a ≢ FEASIBLE
-  answer-otherwise job bytes problem a colours text budget read reads tells e =
-      let limits = job.limits in
-      let same = alone-is job.p bytes problem read colours text reads in
-      solution-otherwise limits read tells.0 (right limits read tells.0 tells.2)
-      (subst (λ (q : Problem). enough (length q.orders) ≤ limits.nodes) same budget)
-      (sym (ap status_of tells.1) ∙ e)
+  answer-otherwise limits problem read a same enough tells e =
+      solution-otherwise limits read tells.0.answer (right limits read tells.0 tells.2)
+      (subst (λ q. IsEnoughFor limits q) same enough) (sym (ap status_of tells.1) ∙ e)
+
+-- those of an instance that stands alone, with an empty schedule
+module _ (Is : Limits → Problem → Solution → Type 0)
+    (told : (limits : Limits) (problem : Problem) (solution : Solution) →
+    Is limits problem solution → IsTold limits [] problem solution) where
+  right : (limits : Limits) (problem : Problem) (solution : Solution) →
+      Is limits problem solution → IsSolution limits problem solution.answer
+  right limits problem solution is = (told limits problem solution is).solution
+
+  alone-is-command : IsCommand
+      (λ job bytes. Replies (instance_alone job.p bytes)
+      (λ problem. Tells Solved (Is job.limits problem)))
+  alone-is-command = record {
+    agree = λ job bytes. replies-agree (instance_alone job.p bytes)
+        (λ problem. Tells Solved (Is job.limits problem)) (alone-decided job.p bytes)
+        (λ read reads. answers-agree Is right job.limits read);
+    with_enough = λ job bytes problem end a colours begins enough.
+        replies-otherwise (instance_alone job.p bytes)
+        (λ problem. Tells Solved (Is job.limits problem)) a
+        (λ read reads. answer-otherwise Is right job.limits problem read a
+        (front-is job.p bytes problem end reads.0 colours begins reads.1 ∙ sym reads.2.0) enough);
+    hands_out = λ job bytes a.
+        replies-hand-out (instance_alone job.p bytes)
+        (λ problem. Tells Solved (Is job.limits problem)) a
+        (λ read reads. tells-run (Is job.limits read) (λ solution is.
+        told-run job.limits [] read solution (told job.limits read solution is)) a);
+  }
 
 solve-is-command : IsCommand Solves
-solve-is-command = record {
-  agree = λ job bytes. replies-agree (instance_alone job.p bytes)
-      (λ problem. Tells Solved (IsSolved job.limits problem)) (alone-decided job.p bytes)
-      (λ read reads. answers-agree IsSolved (λ limits problem answer is. is.told.solution)
-      job.limits read);
-  with_enough = λ job bytes problem a colours text budget.
-      replies-otherwise (instance_alone job.p bytes)
-      (λ problem. Tells Solved (IsSolved job.limits problem)) a
-      (answer-otherwise IsSolved (λ limits problem answer is. is.told.solution) job bytes problem a
-      colours text budget);
-}
+solve-is-command = alone-is-command IsSolved (λ limits problem solution is. is.told)
 
 prove-is-command : IsCommand Proves
-prove-is-command = record {
-  agree = λ job bytes. replies-agree (instance_alone job.p bytes)
-      (λ problem. Tells Solved (IsProved job.limits problem)) (alone-decided job.p bytes)
-      (λ read reads. answers-agree IsProved (λ limits problem answer is. is.told.solution)
-      job.limits read);
-  with_enough = λ job bytes problem a colours text budget.
-      replies-otherwise (instance_alone job.p bytes)
-      (λ problem. Tells Solved (IsProved job.limits problem)) a
-      (answer-otherwise IsProved (λ limits problem answer is. is.told.solution) job bytes problem a
-      colours text budget);
+prove-is-command =
+    alone-is-command (λ limits. IsProved limits []) (λ limits problem solution is. is.told)
+
+replay-is-command : IsCommand Replays
+replay-is-command = record {
+  agree = λ job bytes. replies-agree (instance_with_schedule job.p job.limits.workers bytes)
+      (λ read. Tells Solved (IsProved job.limits read.1 read.0))
+      (with-schedule-decided job.p job.limits.workers bytes)
+      (λ read reads. answers-agree (λ limits. IsProved limits read.1)
+      (λ limits problem solution is. is.told.solution) job.limits read.0);
+  with_enough = λ job bytes problem end a colours begins enough.
+      replies-otherwise (instance_with_schedule job.p job.limits.workers bytes)
+      (λ read. Tells Solved (IsProved job.limits read.1 read.0)) a
+      (λ read reads. answer-otherwise (λ limits. IsProved limits read.1)
+      (λ limits problem solution is. is.told.solution) job.limits problem read.0 a
+      (front-is job.p bytes problem end reads.0 colours begins reads.1 ∙ sym reads.2.0) enough);
+  hands_out = λ job bytes a.
+      replies-hand-out (instance_with_schedule job.p job.limits.workers bytes)
+      (λ read. Tells Solved (IsProved job.limits read.1 read.0)) a
+      (λ read reads. tells-run (IsProved job.limits read.1 read.0) (λ solution is.
+      told-run job.limits read.1 read.0 solution is.told) a);
 }
 
 -- ---- commands that judge an answer
@@ -121,16 +180,26 @@ judged-otherwise Is a tells e =
     by_test true is = omega (arith, is)
     by_test false is = omega (arith, is)
 
+judged-run : (Is : Judgement → Type 0) (a : Outcome) → Tells Judged Is a → HandsOutRun a
+judged-run Is a tells = record {
+  feasible = λ e. absurd (judged-otherwise Is a tells e);
+  otherwise = λ other. ap run_of tells.1;
+}
+
 check-is-command : IsCommand Checks
 check-is-command = record {
   agree = λ job bytes. replies-agree (instance_with_answer job.p bytes)
       (λ read. Tells Judged (IsSaidOf read.0 read.1)) (with-answer-decided job.p bytes)
       (λ read reads. tells-agree Judged (IsSaidOf read.0 read.1)
       (λ s t h k. ap Judged (said-once read.0 read.1 s t h k)));
-  with_enough = λ job bytes problem a colours text budget.
+  with_enough = λ job bytes problem end a colours begins enough.
       replies-otherwise (instance_with_answer job.p bytes)
       (λ read. Tells Judged (IsSaidOf read.0 read.1)) a
       (λ read reads. judged-otherwise (IsSaidOf read.0 read.1) a);
+  hands_out = λ job bytes a.
+      replies-hand-out (instance_with_answer job.p bytes)
+      (λ read. Tells Judged (IsSaidOf read.0 read.1)) a
+      (λ read reads. judged-run (IsSaidOf read.0 read.1) a);
 }
 
 verify-is-command : IsCommand Verifies
@@ -139,10 +208,14 @@ verify-is-command = record {
       (λ read. Tells Judged (IsVerdictOn read.0 read.1)) (with-proof-decided job.p bytes)
       (λ read reads. tells-agree Judged (IsVerdictOn read.0 read.1)
       (λ s t h k. ap Judged (verdict-on-once read.0 read.1 s t h k)));
-  with_enough = λ job bytes problem a colours text budget.
+  with_enough = λ job bytes problem end a colours begins enough.
       replies-otherwise (instance_with_proof job.p bytes)
       (λ read. Tells Judged (IsVerdictOn read.0 read.1)) a
       (λ read reads. judged-otherwise (IsVerdictOn read.0 read.1) a);
+  hands_out = λ job bytes a.
+      replies-hand-out (instance_with_proof job.p bytes)
+      (λ read. Tells Judged (IsVerdictOn read.0 read.1)) a
+      (λ read reads. judged-run (IsVerdictOn read.0 read.1) a);
 }
 
 -- ---- one line for each
@@ -152,3 +225,4 @@ each-is-command command.Solve = solve-is-command
 each-is-command command.Prove = prove-is-command
 each-is-command command.Check = check-is-command
 each-is-command command.Verify = verify-is-command
+each-is-command command.Replay = replay-is-command

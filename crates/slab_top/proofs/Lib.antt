@@ -5,3 +5,6 @@ mod Stopped
 mod EachCommand
 mod Rights
 mod Given
+mod MoreBehind
+mod ReadBehind
+mod BothHalves

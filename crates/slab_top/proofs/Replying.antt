@@ -2,6 +2,7 @@
 -- decided and what it says of a value agrees.
 use Rattle.std.proofs.Common.{◌≡◌, ◌≢◌, ℕ, Bool, true, false, cond, refl, sym, ap, ◌∙◌, subst}
 use Rattle.std.proofs.Common.{inl, inr, arith}
+use Rattle.std.specs.Prelude.{None, IsSome}
 use Rattle.answer_text.specs.declared.answer.Answer.{Answer}
 use Rattle.answer_text.specs.declared.answer.Answer.TheVariants.{Optimal, Feasible, Infeasible}
 use Rattle.reply_text.specs.declared.outcome.Outcome.{Outcome}
@@ -15,7 +16,7 @@ use Rattle.solve_answer.specs.Solved.{AgreeOnAnswers}
 use Rattle.slab_top.specs.Stage.{Stage, IsDecided}
 use Rattle.slab_top.specs.Reply.{Replies, Tells}
 use Rattle.slab_top.specs.Served.{Output, Answered, status_of}
-use Rattle.slab_top.specs.Agree.{AgreeOnOutcomes, Agree, MayEndWith}
+use Rattle.slab_top.specs.Agree.{AgreeOnOutcomes, Agree, MayEndWith, MayEndWithAnswer}
 use Rattle.slab_top.specs.Run.{IsStatus, IsOwnStatus}
 
 -- ---- agreement
@@ -26,7 +27,7 @@ answer-agrees (Feasible loss plan spent) = refl
 answer-agrees answer = refl
 
 outcome-agrees : (a : Outcome) → AgreeOnOutcomes a a
-outcome-agrees (Solved answer) = answer-agrees answer
+outcome-agrees (Solved solution) = answer-agrees solution.answer
 outcome-agrees a = refl
 
 pub same-agree : (a b : Outcome) → a ≡ b → AgreeOnOutcomes a b
@@ -64,7 +65,7 @@ number-own status known read written memory = record {
   answered = record { read = read; written = written; memory = memory };
 }
 
-answer-own : (answer : Answer) → IsOwnStatus (told.status_of (Solved answer))
+answer-own : (answer : Answer) → IsOwnStatus (told.status_of_answer answer)
 answer-own (Optimal loss plan log) =
     number-own OPTIMAL refl (λ e. omega (arith, e)) (λ e. omega (arith, e)) (λ e. omega (arith, e))
 answer-own (Feasible loss plan spent) =
@@ -80,7 +81,7 @@ judgement-own false =
     number-own REJECTED refl (λ e. omega (arith, e)) (λ e. omega (arith, e)) (λ e. omega (arith, e))
 
 pub outcome-own : (a : Outcome) → IsOwnStatus (told.status_of a)
-outcome-own (Solved answer) = answer-own answer
+outcome-own (Solved solution) = answer-own solution.answer
 outcome-own (Judged judgement) = judgement-own (is_accepted judgement)
 outcome-own (Refused why) =
     number-own REFUSED refl (λ e. omega (arith, e)) (λ e. omega (arith, e)) (λ e. omega (arith, e))
@@ -93,27 +94,47 @@ replies-otherwise stage Says a said (inl h) e =
     let refused = ap told.status_of h.1 in omega (arith, refused, e)
 replies-otherwise stage Says a said (inr h) e = said h.0 h.1 h.2 e
 
+-- a run is handed out exactly where the status is that of a feasible plan
+pub record HandsOutRun (a : Outcome) : Type 0 where
+  pub feasible : told.status_of a ≡ FEASIBLE → IsSome (told.run_of a)
+  pub otherwise : told.status_of a ≢ FEASIBLE → told.run_of a ≡ None
+
+-- with a refusal none is, so one is where it is with what is said of a value
+pub replies-hand-out : {A : Type 0} (stage : Stage A) (Says : A → Outcome → Type 0)
+    (a : Outcome) → ((read : A) → stage.Reads read → Says read a → HandsOutRun a) →
+    Replies stage Says a → HandsOutRun a
+replies-hand-out stage Says a said (inl h) =
+    subst HandsOutRun (sym h.1) (record {
+      feasible = λ e. absurd (omega (arith, e));
+      otherwise = λ other. refl;
+    })
+replies-hand-out stage Says a said (inr h) = said h.0 h.1 h.2
+
 -- a run may end with an output's own status, and with that of one that agrees with it
+own-answer : (a : Answer) → MayEndWithAnswer a (told.status_of_answer a)
+own-answer (Optimal loss plan log) = inl refl
+own-answer (Feasible loss plan spent) = inr refl
+own-answer (Infeasible place) = refl
+
 own-status : (a : Output) → MayEndWith a (status_of a)
-own-status (Answered (Solved (Optimal loss plan log))) = inl refl
-own-status (Answered (Solved (Feasible loss plan spent))) = inr refl
+own-status (Answered (Solved solution)) = own-answer solution.answer
 own-status a = refl
 
 same-status : (a b : Output) → a ≡ b → MayEndWith b (status_of a)
 same-status a b same = subst (λ other. MayEndWith other (status_of a)) same (own-status a)
 
 answer-status : (a b : Answer) → AgreeOnAnswers a b →
-    MayEndWith (Answered (Solved b)) (status_of (Answered (Solved a)))
+    MayEndWithAnswer b (told.status_of_answer a)
 answer-status (Optimal loss plan log) (Optimal other slabs entries) agree = inl refl
 answer-status (Optimal loss plan log) (Feasible other slabs spent) agree = inl refl
 answer-status (Feasible loss plan spent) (Optimal other slabs entries) agree = inr refl
 answer-status (Feasible loss plan spent) (Feasible other slabs closed) agree = inr refl
 answer-status a b agree =
-    same-status (Answered (Solved a)) (Answered (Solved b)) (ap (λ it. Answered (Solved it)) agree)
+    subst (λ other. MayEndWithAnswer other (told.status_of_answer a)) agree (own-answer a)
 
 outcome-status : (a b : Outcome) → AgreeOnOutcomes a b →
     MayEndWith (Answered b) (status_of (Answered a))
-outcome-status (Solved a) (Solved b) agree = answer-status a b agree
+outcome-status (Solved a) (Solved b) agree = answer-status a.answer b.answer agree
 outcome-status a b agree = same-status (Answered a) (Answered b) (ap Answered agree)
 
 pub agree-status : (a b : Output) → Agree a b → MayEndWith b (status_of a)

@@ -5,24 +5,26 @@ use Rattle.std.specs.Io.KnownBytes.{Consumes, IsAtEnd}
 use Rattle.std.proofs.KnownBytes.{Consumes-whole}
 use Rattle.std.proofs.Common.{◌≡◌, ◌≢◌, ℕ, suc, ◌≤◌, List, length, refl, sym, ◌∙◌, subst, arith}
 use Rattle.std.proofs.Common.{inl, inr}
+use Rattle.std.proofs.lemmas.Bool.{cases_order}
 use Rattle.std.proofs.lemmas.List.{length-replicate}
 use Rattle.mill_io.specs.Bytes.{HasMoreThan}
 use Rattle.mill_model.specs.Instance.{Problem}
-use Rattle.mill_model.specs.Size.{enough}
-use Rattle.instance_text.specs.Text.{IsInstanceText}
+use Rattle.instance_text.specs.Text.{Begins}
+use Rattle.refute_log.specs.declared.piece.Run.{Run}
 use Rattle.job_words.specs.declared.job.Job.{Job}
 use Rattle.job_words.specs.Words.{AskFor, limit_of}
 use Rattle.reply_text.specs.declared.outcome.Outcome.{Outcome}
 use Rattle.reply_text.specs.declared.outcome.Outcome.TheVariants.{Refused}
 use Rattle.reply_text.specs.declared.refusal.Refusal.TheVariants.{TooLong}
 use Rattle.reply_text.specs.declared.status.TheConstants.{FEASIBLE, WRITE_FAULT}
-use Rattle.reply_text.specs.Outcome.{status_of}
+use Rattle.reply_text.specs.Outcome.{status_of, run_of}
 use Rattle.slab_top.specs.Input.{whole_input}
 use Rattle.slab_top.specs.Served.{Serves, IsAnswer, IsServed, Output, WrongWords, Answered, IsRight}
 use Rattle.slab_top.specs.Agree.{AgreeOnOutcomes, Agree}
-use Rattle.slab_top.specs.Run.{HasEnough, IsToBeRead}
+use Rattle.slab_top.specs.Run.{HasEnough, IsEnoughFor, IsToBeRead}
 use Rattle.slab_top.proofs.Stages.{whole-decided}
 use Rattle.slab_top.proofs.Replying.{replies-agree, replies-otherwise}
+use Rattle.slab_top.proofs.Replying.{HandsOutRun, replies-hand-out}
 use Rattle.slab_top.proofs.EachCommand.{each-is-command}
 
 -- ---- one input
@@ -33,14 +35,33 @@ answers-agree job input =
     replies-agree (whole_input job input) (Serves job.command job) (whole-decided job input)
     (λ bytes reads. (each-is-command job.command).agree job bytes)
 
-not-feasible : (job : Job) (input : List ℕ) (problem : Problem) (a : Outcome) →
-    problem.p ≡ job.p → IsInstanceText input problem →
-    enough (length problem.orders) ≤ job.limits.nodes → IsAnswer job input a →
-    status_of a ≢ FEASIBLE
-not-feasible job input problem a colours text budget =
+not-feasible : (job : Job) (input : List ℕ) (problem : Problem) (end : ℕ) (a : Outcome) →
+    problem.p ≡ job.p → Begins input problem end → IsEnoughFor job.limits problem →
+    IsAnswer job input a → status_of a ≢ FEASIBLE
+not-feasible job input problem end a colours front budget =
     replies-otherwise (whole_input job input) (Serves job.command job) a
-    (λ bytes reads. (each-is-command job.command).with_enough job bytes problem a colours
-    (subst (λ given. IsInstanceText given problem) (sym reads.0) text) budget)
+    (λ bytes reads. (each-is-command job.command).with_enough job bytes problem end a colours
+    (subst (λ given. Begins given problem end) (sym reads.0) front) budget)
+
+-- a run is handed out exactly with a feasible answer
+pub served-run : (job : Job) (left : Option (List ℕ)) (a : Outcome) → IsServed job left a →
+    HandsOutRun a
+served-run job left a served =
+    replies-hand-out (whole_input job served.input) (Serves job.command job) a
+    (λ bytes reads. (each-is-command job.command).hands_out job bytes a) served.answer
+
+-- so none is kept with another status, that of a failed write among them
+pub none-kept : (a : Outcome) (status : ℕ) (run : Option Run) → HandsOutRun a →
+    (status ≢ WRITE_FAULT → status ≡ status_of a) → (status ≢ WRITE_FAULT → run ≡ run_of a) →
+    (status ≡ WRITE_FAULT → run ≡ None) → status ≢ FEASIBLE → run ≡ None
+none-kept a status run hands is written failed other = elim (cases_order status WRITE_FAULT) [
+  | inl same ↦ failed same
+  | inr rest ↦ (let apart : status ≢ WRITE_FAULT = λ same. elim rest [
+    | inl less ↦ omega (arith, same, less)
+    | inr more ↦ omega (arith, same, more)
+  ] in
+      written apart ∙ hands.otherwise (λ feasible. other (is apart ∙ feasible)))
+]
 
 -- ---- the bytes to come
 
@@ -105,11 +126,10 @@ module _ (words : List (List ℕ)) (job : Job) (left : Option (List ℕ))
       by_left None own status served is = tt
       by_left (Some input) own status served is = λ has e.
           let same = only has.job has.asked in
-          not-feasible job served.input has.problem own
+          not-feasible job served.input has.problem has.end own
           (subst (λ (j : Job). has.problem.p ≡ j.p) same has.colours)
-          (subst (λ bytes. IsInstanceText bytes has.problem) served.given has.text)
-          (subst (λ (j : Job). enough (length has.problem.orders) ≤ j.limits.nodes) same
-          has.budget)
+          (subst (λ bytes. Begins bytes has.problem has.end) served.given has.front)
+          (subst (λ (j : Job). IsEnoughFor j.limits has.problem) same has.budget)
           served.answer
           (sym (is (λ failed. omega (arith, e, failed))) ∙ e)
 

@@ -1,7 +1,7 @@
 -- Each stage of a command is decided, and so are stages one after the other. What a reader shows
 -- of its text is all that is wanted of its stage.
 use Rattle.std.specs.Prelude.{Result, Ok, Err}
-use Rattle.std.proofs.Common.{◌≡◌, ◌≢◌, ℕ, ◌^◌, ◌<◌, List, length, sym, ap, ap₂, ◌∙◌}
+use Rattle.std.proofs.Common.{◌≡◌, ◌≢◌, ℕ, ◌^◌, ◌<◌, List, length, drop, sym, ap, ap₂, ◌∙◌}
 use Rattle.std.proofs.Common.{subst, inl, inr, arith}
 use Rattle.mill_model.specs.Instance.{Problem}
 use Rattle.instance_text.proofs.Exact.{begins_once, begins_right, refused_once}
@@ -11,11 +11,13 @@ use Rattle.answer_text.specs.declared.error.AnswerTextError.TheVariants as error
 use Rattle.answer_text.proofs.Unique.{Says, comes-where}
 use Rattle.job_words.specs.declared.job.Job.{Job}
 use Rattle.reply_text.specs.declared.refusal.Refusal.{Refusal}
-use Rattle.reply_text.specs.declared.refusal.Refusal.TheVariants.{Instance, Rest, Answer}
+use Rattle.reply_text.specs.declared.refusal.Refusal.TheVariants.{Instance, Rest, Answer, Schedule}
+use Rattle.schedule_text.proofs.Decided.{one-schedule, one-token, never-both}
 use Rattle.slab_top.specs.Stage.{Stage, IsDecided, and_then}
 use Rattle.slab_top.specs.Input.{Front, whole_input, front, nothing_behind, answer_behind}
 use Rattle.slab_top.specs.Input.{something_proved, instance_alone, instance_with_answer}
 use Rattle.slab_top.specs.Input.{instance_with_proof, lines_behind, IsWrongAnswer}
+use Rattle.slab_top.specs.Input.{after_white, schedule_behind, instance_with_schedule}
 use Rattle.slab_top.proofs.Behind.{rest-is-blank, first-once}
 
 -- ---- one stage after the other
@@ -149,6 +151,22 @@ proved-decided given = record {
   apart = λ a r h k. h.1 k.1;
 }
 
+-- ---- a schedule behind it
+
+schedule-decided : (workers : ℕ) (bytes : List ℕ) (front : Front) →
+    IsDecided (schedule_behind workers bytes front)
+schedule-decided workers bytes front =
+    let text = after_white (drop front.end bytes) in
+    record {
+      one = λ a b h k.
+          (let make : Problem → List ℕ → Problem × List ℕ = λ problem schedule.
+          (problem, schedule) in
+          ap₂ make (h.0 ∙ sym k.0) (one-schedule workers text a.1 b.1 h.1 k.1));
+      why = λ r s h k.
+          h.1 ∙ ap Schedule (one-token workers text h.0 k.0 h.2 k.2) ∙ sym k.1;
+      apart = λ a r h k. never-both workers text a.1 k.0 h.1 k.2;
+    }
+
 -- ---- what the commands read
 
 pub alone-decided : (p : ℕ) (bytes : List ℕ) → IsDecided (instance_alone p bytes)
@@ -166,3 +184,9 @@ pub with-proof-decided : (p : ℕ) (bytes : List ℕ) → IsDecided (instance_wi
 with-proof-decided p bytes =
     and-then-decided (instance_with_answer p bytes) something_proved
     (with-answer-decided p bytes) (λ given reads. proved-decided given)
+
+pub with-schedule-decided : (p workers : ℕ) (bytes : List ℕ) →
+    IsDecided (instance_with_schedule p workers bytes)
+with-schedule-decided p workers bytes =
+    and-then-decided (front p bytes) (schedule_behind workers bytes) (front-decided p bytes)
+    (λ front reads. schedule-decided workers bytes front)

@@ -13,7 +13,8 @@ use Rattle.answer_text.specs.Judged as in_answer
 use Rattle.job_words.specs.declared.job.Job.{Job}
 use Rattle.job_words.specs.Words.{limit_of}
 use Rattle.reply_text.specs.declared.refusal.Refusal.TheVariants.{TooLong, Instance, Rest, Answer}
-use Rattle.reply_text.specs.declared.refusal.Refusal.TheVariants.{AnswerKind}
+use Rattle.reply_text.specs.declared.refusal.Refusal.TheVariants.{AnswerKind, Schedule}
+use Rattle.schedule_text.specs.Text.{IsScheduleText, IsWrongToken}
 use Rattle.judge_answer.specs.Verify.{ProvesNothing}
 use Rattle.slab_top.specs.Stage.{Stage, and_then}
 
@@ -79,6 +80,16 @@ something_proved given = record {
   Refuses = λ why. (why ≡ AnswerKind) × ProvesNothing given.1;
 }
 
+-- ---- the rest, where a schedule of so many workers is to follow
+
+abbrev pub schedule_behind : ℕ → List ℕ → Front → Stage (Problem × List ℕ)
+schedule_behind workers bytes front = record {
+  Reads = λ read. (read.0 ≡ front.problem)
+      × IsScheduleText workers (after_white (drop front.end bytes)) read.1;
+  Refuses = λ why. (token : ℕ) × (why ≡ Schedule token)
+      × IsWrongToken workers (after_white (drop front.end bytes)) token;
+}
+
 -- ---- what a command reads from an input within its limit
 
 -- an instance that stands alone
@@ -92,3 +103,7 @@ instance_with_answer p bytes = and_then (front p bytes) (answer_behind bytes)
 -- an instance with an answer behind it that can be verified
 abbrev pub instance_with_proof : ℕ → List ℕ → Stage (Problem × SomeAnswer)
 instance_with_proof p bytes = and_then (instance_with_answer p bytes) something_proved
+
+-- an instance with a schedule of so many workers behind it
+abbrev pub instance_with_schedule : ℕ → ℕ → List ℕ → Stage (Problem × List ℕ)
+instance_with_schedule p workers bytes = and_then (front p bytes) (schedule_behind workers bytes)

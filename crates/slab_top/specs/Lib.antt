@@ -3,9 +3,11 @@ pub mod Input
 pub mod Reply
 pub mod Solve
 pub mod Prove
+pub mod Replay
 pub mod Check
 pub mod Verify
 pub mod Served
 pub mod Agree
 pub mod Run
 pub mod Given
+pub mod BothHalves

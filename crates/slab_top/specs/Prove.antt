@@ -1,5 +1,5 @@
--- `prove`: it reads an instance that stands alone, and answers it with a log.
-use Rattle.std.specs.Prelude.{ℕ, List}
+-- `prove`: it reads an instance that stands alone, and answers it with a log, by the empty schedule.
+use Rattle.std.specs.Prelude.{ℕ, List, []}
 use Rattle.job_words.specs.declared.job.Job.{Job}
 use Rattle.reply_text.specs.declared.outcome.Outcome.{Outcome}
 use Rattle.reply_text.specs.declared.outcome.Outcome.TheVariants.{Solved}
@@ -10,4 +10,4 @@ use Rattle.slab_top.specs.Reply.{Replies, Tells}
 abbrev pub Proves : Job → List ℕ → Outcome → Type 0
 Proves job bytes =
     Replies (instance_alone job.p bytes)
-    (λ problem. Tells Solved (IsProved job.limits problem))
+    (λ problem. Tells Solved (IsProved job.limits [] problem))

@@ -23,8 +23,12 @@ IsReply Is (Ok outcome) = Is outcome
 IsReply Is (Err (stop.Refused why)) = Is (Refused why)
 IsReply Is (Err stop.OutOfMemory) = Unit {0}
 
--- what the call of a stage gives
+-- what the call of a stage gives, where its value stands for what the stage reads
+abbrev pub IsReadingOf : {A B : Type 0} → (B → A) → Stage A → Result B Stop → Type 0
+IsReadingOf read stage (Ok value) = stage.Reads (read value)
+IsReadingOf read stage (Err (stop.Refused why)) = stage.Refuses why
+IsReadingOf read stage (Err stop.OutOfMemory) = Unit {0}
+
+-- and where it is what the stage reads
 abbrev pub IsReading : {A : Type 0} → Stage A → Result A Stop → Type 0
-IsReading stage (Ok value) = stage.Reads value
-IsReading stage (Err (stop.Refused why)) = stage.Refuses why
-IsReading stage (Err stop.OutOfMemory) = Unit {0}
+IsReading stage = IsReadingOf (λ value. value) stage

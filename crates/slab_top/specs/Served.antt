@@ -1,5 +1,6 @@
 -- What is right for the words and the bytes that a run is given.
-use Rattle.std.specs.Prelude.{◌≡◌, ℕ, List, Option, IfSome}
+use Rattle.std.specs.Prelude.{◌≡◌, ℕ, List, Option, None, IfSome}
+use Rattle.refute_log.specs.declared.piece.Run.{Run}
 use Rattle.job_words.specs.declared.command.Command.{Command}
 use Rattle.job_words.specs.declared.command.Command.TheVariants as command
 use Rattle.job_words.specs.declared.job.Job.{Job}
@@ -12,6 +13,7 @@ use Rattle.slab_top.specs.Input.{whole_input}
 use Rattle.slab_top.specs.Reply.{Replies}
 use Rattle.slab_top.specs.Solve.{Solves}
 use Rattle.slab_top.specs.Prove.{Proves}
+use Rattle.slab_top.specs.Replay.{Replays}
 use Rattle.slab_top.specs.Check.{Checks}
 use Rattle.slab_top.specs.Verify.{Verifies}
 
@@ -21,6 +23,7 @@ Serves command.Solve = Solves
 Serves command.Prove = Proves
 Serves command.Check = Checks
 Serves command.Verify = Verifies
+Serves command.Replay = Replays
 
 -- what a job answers to an input, first of all to its length
 abbrev pub IsAnswer : Job → List ℕ → Outcome → Type 0
@@ -44,6 +47,11 @@ status_of (Answered outcome) = told.status_of outcome
 abbrev pub text_of : Output → List ℕ
 text_of WrongWords = usage_line
 text_of (Answered outcome) = told.text_of outcome
+
+-- the run that is handed out with it
+abbrev pub run_of : Output → Option Run
+run_of WrongWords = None
+run_of (Answered outcome) = told.run_of outcome
 
 -- what is right for words and the bytes to come
 abbrev pub IsRight : List (List ℕ) → Option (List ℕ) → Output → Type 0

@@ -9,6 +9,7 @@ ghost use Rattle.slab_top.specs.Served.{Serves};
 
 mod check;
 mod prove;
+mod replay;
 mod solve;
 mod verify;
 
@@ -27,5 +28,6 @@ pub fn serve(alloc: Global, job: Job, input: &[u8]) -> Result<Outcome, Stop>
         Command::Prove => prove::serve(alloc, job, input),
         Command::Check => check::serve(alloc, job, input),
         Command::Verify => verify::serve(alloc, job, input),
+        Command::Replay => replay::serve(alloc, job, input),
     }
 }

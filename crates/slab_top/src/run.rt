@@ -1,14 +1,15 @@
-ghost use Rattle.std.specs.Prelude.{◌≡◌, ◌≢◌, ◌≤◌, ◌++◌, ℕ, List, Err, length, IfOk, IfSome};
+ghost use Rattle.std.specs.Prelude.{◌≡◌, ◌≢◌, ◌≤◌, ◌++◌, ℕ, List, Err, None, length, IfOk, IfSome};
 ghost use Rattle.std.specs.Prelude.{IsErrOf, IsSome, OnOk};
 ghost use Rattle.std.specs.Io.KnownBytes.{Appends, IsAtEnd};
 ghost use Rattle.mill_io.specs.Causes.{Rose};
 ghost use Rattle.mill_io.specs.Bytes.{AppendsFront, AppendsToBoth, GivesLost};
 ghost use Rattle.job_words.specs.Words.{AskFor, IsInRange, limit_of, texts};
 ghost use Rattle.job_words.specs.declared.job.Job.{Job};
+ghost use Rattle.reply_text.specs.Outcome as told;
 ghost use Rattle.reply_text.specs.Outcome.{IsToTell};
 ghost use Rattle.reply_text.specs.declared.status.TheConstants.{FEASIBLE, READ_FAULT, WRITE_FAULT};
 ghost use Rattle.reply_text.specs.declared.status.TheConstants.{OUT_OF_MEMORY};
-ghost use Rattle.slab_top.specs.Served.{Output, IsRight, IsServed, status_of, text_of};
+ghost use Rattle.slab_top.specs.Served.{Output, IsRight, IsServed, run_of, status_of, text_of};
 ghost use Rattle.slab_top.specs.Agree.{Agree, MayEndWith};
 ghost use Rattle.slab_top.specs.Given.{HasAnswered, IsServedWhole};
 ghost use Rattle.slab_top.specs.Run.{HasEnough, IsAnswered, IsOwnStatus, IsStatus, IsToBeRead};
@@ -16,6 +17,7 @@ ghost use Rattle.slab_top.specs.Run.{HasEnough, IsAnswered, IsOwnStatus, IsStatu
 use crate::commands::serve;
 use job_words::{Job, read_words, write_usage};
 use mill_io::{ReadError, Sink, Source, read_all};
+use refute_log::Run;
 use reply_text::{
     OUT_OF_MEMORY, Outcome, READ_FAULT, Refusal, Reply, Stop, WRITE_FAULT, WRONG_WORDS,
 };
@@ -78,15 +80,29 @@ fn write_out<K: Sink>(sink: &mut K, reply: &Reply) -> u8
     }
 }
 
-/// The top call: serves what the words ask for, and gives the status that the program ends with.
+// The run that is handed out: the one behind the outcome, where its text was written whole.
+fn run_behind(outcome: Outcome, status: u8) -> Option<Run>
+    ensures written { status ≢ WRITE_FAULT → result ≡ told.run_of outcome }
+    ensures failed { status ≡ WRITE_FAULT → result ≡ None }
+{
+    if status == WRITE_FAULT {
+        None
+    } else {
+        outcome.into_run()
+    }
+}
+
+/// The top call: serves what the words ask for, gives the status that the program ends with, and
+/// hands out the run behind a feasible answer in `kept`. `solve`, `prove` and `replay` answer an
+/// instance.
 ///
 /// | status | where |
 /// |---|---|
-/// | 0 | `solve` or `prove` wrote an optimal plan; or `check` or `verify` accepted the answer |
-/// | 1 | `solve` or `prove` wrote the first order that no slab holds |
+/// | 0 | an answering command wrote an optimal plan; or `check` or `verify` accepted the answer |
+/// | 1 | an answering command wrote the first order that no slab holds |
 /// | 2 | the words ask for nothing that the program does |
 /// | 3 | the input was refused |
-/// | 4 | `solve` or `prove` wrote a feasible plan: its budget is less than is always enough |
+/// | 4 | an answering command wrote a feasible plan: the budget was spent, and a path is left |
 /// | 5 | a read failed; nothing was written |
 /// | 6 | a write failed; a front of the text was written |
 /// | 7 | want of memory; nothing was written |
@@ -96,13 +112,19 @@ pub fn run_plain<S: Source, K: Sink>(
     words: &[String],
     source: &mut S,
     sink: &mut K,
+    kept: &mut Option<Run>,
 ) -> u8
     // Unless something failed, the status is that of an output that is right for the words and the
-    // bytes, and its text was written whole.
+    // bytes, and its text was written whole; and the run behind it is handed out.
     ensures answered { IsAnswered result → (output : Output)
         × IsRight (texts words.now) (S.left source.old) output
         × (result ≡ status_of output)
-        × Appends (K.written sink.old) (K.written sink.new) (text_of output) }
+        × Appends (K.written sink.old) (K.written sink.new) (text_of output)
+        × (kept.new ≡ run_of output) }
+
+    // A run is handed out exactly behind a feasible answer.
+    ensures kept { result ≡ FEASIBLE → IsSome kept.new }
+    ensures none_kept { result ≢ FEASIBLE → kept.new ≡ None }
 
     // Where the bytes are told, each output that is right has this status: it comes exactly there.
     // Only whether a plan is optimal or feasible is left open, where the budget isn't enough.
@@ -123,7 +145,8 @@ pub fn run_plain<S: Source, K: Sink>(
         × (S.given source.new ≡ S.given source.old ++ input)
         × IsServedWhole (texts words.now) input (S.ended source.new) output
         × (result ≡ status_of output)
-        × Appends (K.written sink.old) (K.written sink.new) (text_of output) }
+        × Appends (K.written sink.old) (K.written sink.new) (text_of output)
+        × (kept.new ≡ run_of output) }
     ensures given_enough { (input : List ℕ) → S.given source.new ≡ S.given source.old ++ input
         → HasEnough (texts words.now) input → result ≢ FEASIBLE }
     ensures given_front { result ≡ WRITE_FAULT → (input : List ℕ) × (output : Output)
@@ -157,6 +180,7 @@ pub fn run_plain<S: Source, K: Sink>(
     ensures memory { result ≡ OUT_OF_MEMORY → sink.new ≡ sink.old }
     ensures memory_for { result ≡ OUT_OF_MEMORY → (job : Job) × AskFor (texts words.now) job }
 {
+    *kept = None;
     let Ok(job) = read_words(words) else {
         return match write_usage(sink) {
             Ok(()) => WRONG_WORDS,
@@ -165,7 +189,11 @@ pub fn run_plain<S: Source, K: Sink>(
     };
     match outcome_of(alloc, job, source) {
         Ok(outcome) => match outcome.reply(alloc) {
-            Ok(reply) => write_out(sink, &reply),
+            Ok(reply) => {
+                let status = write_out(sink, &reply);
+                *kept = run_behind(outcome, status);
+                status
+            }
             Err(_) => OUT_OF_MEMORY,
         },
         Err(Failure::ReadFault) => READ_FAULT,

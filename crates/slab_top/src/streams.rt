@@ -1,4 +1,4 @@
-ghost use Rattle.std.specs.Prelude.{◌≡◌, ◌≢◌, ◌++◌, ◌↔◌, ℕ, List, [], Some};
+ghost use Rattle.std.specs.Prelude.{◌≡◌, ◌≢◌, ◌++◌, ◌↔◌, ℕ, List, [], None, Some, IsSome};
 ghost use Rattle.std.specs.Io.KnownBytes.{Appends, Consumes};
 ghost use Rattle.mill_io.specs.Standard.{reader_of, bytes_given, read_faults, HasEnded};
 ghost use Rattle.mill_io.specs.Standard.{writer_of, bytes_taken, write_faults};
@@ -6,13 +6,14 @@ ghost use Rattle.job_words.specs.Words.{AskFor, texts};
 ghost use Rattle.job_words.specs.declared.job.Job.{Job};
 ghost use Rattle.reply_text.specs.declared.status.TheConstants.{FEASIBLE, READ_FAULT, WRITE_FAULT};
 ghost use Rattle.reply_text.specs.declared.status.TheConstants.{OUT_OF_MEMORY};
-ghost use Rattle.slab_top.specs.Served.{IsRight, Output, status_of, text_of};
+ghost use Rattle.slab_top.specs.Served.{IsRight, Output, run_of, status_of, text_of};
 ghost use Rattle.slab_top.specs.Agree.{MayEndWith};
 ghost use Rattle.slab_top.specs.Given.{IsServedWhole};
 ghost use Rattle.slab_top.specs.Run.{HasEnough, IsAnswered, IsStatus};
 
 use crate::run::run_plain;
 use mill_io::{StdSink, StdSource};
+use refute_log::Run;
 use std::alloc::Global;
 use std::io::{Read, Write};
 
@@ -37,14 +38,20 @@ pub fn run_streams<R: Read, W: Write>(
     words: &[String],
     reader: R,
     writer: W,
+    kept: &mut Option<Run>,
 ) -> RunEnd<R, W>
-    // Unless something failed, the status and all that the writer took are those of an output that
-    // is right for the words and for all that the reader gave.
+    // Unless something failed, the status, all that the writer took and the run that is handed out
+    // are those of an output that is right for the words and for all that the reader gave.
     ensures answered { IsAnswered result.status → (output : Output)
         × IsServedWhole (texts words.now) (bytes_given result.source) (HasEnded result.source)
         output
         × (result.status ≡ status_of output)
-        × (bytes_taken result.sink ≡ text_of output) }
+        × (bytes_taken result.sink ≡ text_of output)
+        × (kept.new ≡ run_of output) }
+
+    // A run is handed out exactly behind a feasible answer.
+    ensures kept { result.status ≡ FEASIBLE → IsSome kept.new }
+    ensures none_kept { result.status ≢ FEASIBLE → kept.new ≡ None }
 
     // Each output that is right for them has this status: it comes exactly there. Only whether a
     // plan is optimal or feasible is left open, where the budget isn't enough.
@@ -85,7 +92,7 @@ pub fn run_streams<R: Read, W: Write>(
 {
     let mut source = StdSource::new(reader);
     let mut sink = StdSink::new(writer);
-    let status = run_plain(alloc, words, &mut source, &mut sink);
+    let status = run_plain(alloc, words, &mut source, &mut sink, kept);
     RunEnd {
         source,
         sink,

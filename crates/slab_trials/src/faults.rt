@@ -65,7 +65,8 @@ fn each_failing_read_is_told(rt: HostRuntime) -> Result<(), Fail> {
             failing,
         };
         let mut held = Vec::new(alloc);
-        let status = run_streams(alloc, &words, reader, &mut held).status;
+        let mut kept = None;
+        let status = run_streams(alloc, &words, reader, &mut held, &mut kept).status;
         let want: (u8, &[u8]) = if failing < 13 {
             (5, b"")
         } else {
@@ -93,7 +94,8 @@ fn each_lack_of_room_is_told(rt: HostRuntime) -> Result<(), Fail> {
                 held: &mut held,
                 room,
             };
-            let found = run_streams(alloc, &words, input, writer).status;
+            let mut kept = None;
+            let found = run_streams(alloc, &words, input, writer, &mut kept).status;
             let want = if room < text.len() { 6 } else { status };
             assert_eq!(rt; found, want, "{room}");
             assert_eq!(rt; held.as_slice(), &text[..room], "{room}");
@@ -111,7 +113,8 @@ fn a_usage_line_is_cut(rt: HostRuntime) -> Result<(), Fail> {
     let input: &[u8] = b"";
     for room in 0..text.len() {
         let mut held = [0; 256];
-        let status = run_streams(alloc, &[], input, &mut held[..room]).status;
+        let mut kept = None;
+        let status = run_streams(alloc, &[], input, &mut held[..room], &mut kept).status;
         assert_eq!(rt; status, 6, "{room}");
         assert_eq!(rt; &held[..room], &text[..room], "{room}");
     }

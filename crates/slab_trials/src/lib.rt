@@ -7,4 +7,6 @@ mod faults;
 #[cfg(test)]
 mod grid;
 #[cfg(test)]
+mod kept;
+#[cfg(test)]
 mod least;

@@ -1,4 +1,6 @@
 pub mod SolutionsAgree
 mod PossibleStarts
 mod LossLimit
-mod FoundSolved
+mod Thrift
+mod Searched
+mod Answered

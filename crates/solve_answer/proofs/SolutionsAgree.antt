@@ -34,10 +34,10 @@ solutions-agree limits problem (Optimal loss plan log) (Optimal other slabs entr
     let two = none-better problem other slabs loss plan k.1 h.1.found in
     omega arith
 solutions-agree limits problem (Optimal loss plan log) (Feasible other slabs spent) h k =
-    none-better problem loss plan other slabs h.1 k.1.found
+    none-better problem loss plan other slabs h.1 k.1.feasible.found
 solutions-agree limits problem (Feasible loss plan spent) (Infeasible b) h k =
     absurd (heavy-or-none problem b k h.0)
 solutions-agree limits problem (Feasible loss plan spent) (Optimal other slabs entries) h k =
-    none-better problem other slabs loss plan k.1 h.1.found
+    none-better problem other slabs loss plan k.1 h.1.feasible.found
 solutions-agree limits problem (Feasible loss plan spent) (Feasible other slabs closed) h k =
-    h.1.whole_budget ∙ sym k.1.whole_budget
+    h.1.feasible.whole_budget ∙ sym k.1.feasible.whole_budget

@@ -1,27 +1,55 @@
--- Where the search of a problem's tree begins, and what is answered when it ends.
-use Rattle.std.specs.Prelude.{ℕ, List, [], ◌∷◌, Option}
+-- Where the search of a problem's tree begins, and what it has when it ends.
+use Rattle.std.specs.Prelude.{ℕ, ◌≡◌, ◌≢◌, ◌<◌, ◌≤◌, Bool, true, false, min, List, [], length}
+use Rattle.std.specs.Prelude.{Option, None}
 use Rattle.mill_model.specs.Best.{IsStartOf}
-use Rattle.mill_model.specs.Charges.{charge_of}
+use Rattle.mill_model.specs.Conserved.{joined, IsConserved}
 use Rattle.mill_model.specs.Instance.{Problem, mill_of, loss_charge}
+use Rattle.mill_model.specs.Log.{sound}
 use Rattle.mill_model.specs.Pairs.{IsPossibleStart}
-use Rattle.mill_model.specs.Tree.{canonical}
-use Rattle.mill_model.specs.declared.plan.Start.{Start}
+use Rattle.mill_model.specs.Thrift.{AreThrifty}
+use Rattle.mill_model.specs.declared.limits.Limits.{Limits}
+use Rattle.mill_laws.specs.RunLaws.{EachRecord}
 use Rattle.loss_table.specs.Charges.{AreCharges}
 use Rattle.order_symmetry.specs.Ranked.{IsRankOf}
+use Rattle.refute_log.specs.Fits.{fits}
 use Rattle.refute_log.specs.Logged.{Logged}
-use Rattle.answer_text.specs.declared.answer.Answer.{Answer}
-use Rattle.answer_text.specs.declared.answer.Answer.TheVariants.{Optimal, Feasible}
+use Rattle.refute_log.specs.declared.piece.Run.{Run}
+use Rattle.search_step.specs.Honest.{IsKept}
+use Rattle.search_step.specs.Promise.{records_of}
+use Rattle.solve_answer.specs.Searched.{loss_task, OfStartBound, IsOfACoreRun}
+use Rattle.solve_answer.specs.Solved.{HasRefutation}
 use Rattle.solve_answer.specs.declared.start.Beginning.{Beginning}
 
 -- the charges and the rank of a problem, and a possible start for so many moves, with its loss
 pub record IsBeginning (problem : Problem) (moves : ℕ) (beginning : Beginning) : Type 0 where
   pub charged : AreCharges problem beginning.charges
   pub ranked : IsRankOf problem beginning.ranked
-  pub begins : IsStartOf problem (charge_of beginning.charges) beginning.start
+  pub begins : IsKept beginning.ranked beginning.charges beginning.start
   pub possible : IsPossibleStart (mill_of problem) (loss_charge problem.sizes) problem.orders moves
       beginning.start.plan
 
--- the answer where these paths wait: the best plan is told in canonical form
-abbrev pub answer_from : Start → List (List ℕ) → ℕ → Option Logged → Answer
-answer_from best [] closed log = Optimal best.loss (canonical best.plan) log
-answer_from best (path ∷ paths) closed log = Feasible best.loss (canonical best.plan) closed
+-- A run is that of a search by these limits and this schedule, to its end: no path is lost or
+-- recorded twice, each record is sound for what its plan loses, and thrifty for the start bound,
+-- each ticket is a record, and a path is left only where tickets wanted.
+pub record HasSearched (limits : Limits) (schedule : List ℕ) (problem : Problem) (run : Run)
+    : Type 0 where
+  pub conserved : IsConserved (loss_task problem) (records_of run) run.unclosed.items
+  pub each_sound :
+      EachRecord (records_of run)
+      (λ entry. sound (loss_task problem) run.loss entry.path entry.closing ≡ true)
+  pub fit : EachRecord (records_of run) (λ entry. fits (length problem.orders) entry ≡ true)
+  pub plan :
+      IsStartOf problem (loss_charge problem.sizes)
+      (record { plan = run.plan; loss = run.loss })
+  pub at_most : OfStartBound problem limits.moves (λ bound. run.loss ≤ bound)
+  pub thrifty :
+      OfStartBound problem limits.moves
+      (λ bound. AreThrifty (loss_task problem) bound (joined (records_of run)))
+  pub count : length (joined (records_of run)) ≡ min run.drawn limits.nodes
+  pub left : run.unclosed.items ≢ [] → limits.nodes < run.drawn
+  pub core_run : IsOfACoreRun limits schedule problem run
+
+-- the log of a best plan: where it is asked for it refutes the loss, and else there is none
+abbrev pub HasLogAsAsked : Bool → Limits → List ℕ → Problem → ℕ → Option Logged → Type 0
+HasLogAsAsked true limits schedule problem = HasRefutation limits schedule problem
+HasLogAsAsked false limits schedule problem = λ loss log. log ≡ None

@@ -1,16 +1,32 @@
 -- What is answered to a problem, and where two answers agree.
-use Rattle.std.specs.Prelude.{◌≡◌, ℕ, ◌≤◌, List, length, Option, Some, None}
+use Rattle.std.specs.Prelude.{◌≡◌, ℕ, ◌<◌, ◌≤◌, List, [], length, Option, Some, None}
 use Rattle.mill_model.specs.Best.{IsBest, IsFeasible}
 use Rattle.mill_model.specs.Instance.{Problem, largest, mill_of, loss_charge}
-use Rattle.mill_model.specs.Log.{Refutes, task_of}
+use Rattle.mill_model.specs.Log.{Refutes}
+use Rattle.mill_model.specs.Size.{thrifty_size}
+use Rattle.mill_model.specs.Thrift.{AreThrifty}
 use Rattle.mill_model.specs.declared.closing.Entry.{Entry}
 use Rattle.mill_model.specs.declared.limits.Limits.{Limits}
 use Rattle.line_text.specs.Lines.{text_lines}
 use Rattle.refute_log.specs.Logged.{Logged}
+use Rattle.refute_log.specs.declared.piece.Run.{Run}
 use Rattle.answer_text.specs.declared.answer.Answer.{Answer}
 use Rattle.answer_text.specs.declared.answer.Answer.TheVariants.{Optimal, Feasible, Infeasible}
 use Rattle.answer_text.specs.Text.{answer_text, IsAnswerText}
 use Rattle.mill_model.specs.Heavy.{IsFirstHeavy, NoneHeavy}
+use Rattle.reply_text.specs.declared.solution.Solution.{Solution}
+use Rattle.solve_answer.specs.Searched.{loss_task, OfStartBound, AreOfACoreRun, HasStopped}
+
+-- A plan may be told as feasible with a spent budget: it loses no more than the start bound, and
+-- the budget is less than the thrifty tree of that bound has paths.
+pub record IsSpent (limits : Limits) (problem : Problem) (loss : ℕ) (plan : List ℕ) (spent : ℕ)
+    : Type 0 where
+  pub feasible :
+      IsFeasible (mill_of problem) (loss_charge problem.sizes) problem.orders limits
+      (record { plan = plan; loss = loss }) spent
+  pub below_tree :
+      OfStartBound problem limits.moves
+      (λ bound. limits.nodes < thrifty_size (loss_task problem) bound)
 
 -- an answer is right, for a search with these limits
 abbrev pub IsSolution : Limits → Problem → Answer → Type 0
@@ -21,39 +37,56 @@ IsSolution limits problem (Optimal loss plan refutation) =
     (record { plan = plan; loss = loss })
 IsSolution limits problem (Feasible loss plan spent) =
     NoneHeavy (largest problem.sizes) problem.orders
-    × IsFeasible (mill_of problem) (loss_charge problem.sizes) problem.orders limits
-    (record { plan = plan; loss = loss }) spent
+    × IsSpent limits problem loss plan spent
+
+-- the run that is handed out with an answer: of a feasible one that of the search behind it, which
+-- took its turns by this schedule, and of others none
+abbrev pub HandsOut : Limits → List ℕ → Problem → Answer → Option Run → Type 0
+HandsOut limits schedule problem (Feasible loss plan spent) None = ⊥
+HandsOut limits schedule problem (Feasible loss plan spent) (Some run) =
+    HasStopped limits schedule problem loss plan run
+HandsOut limits schedule problem answer run = run ≡ None
 
 -- what is said of its loss and its log, where it is optimal
 abbrev pub WhereOptimal : (ℕ → Option Logged → Type 0) → Answer → Type 0
 WhereOptimal Is (Optimal loss plan refutation) = Is loss refutation
 WhereOptimal Is answer = Unit {0}
 
--- a log refutes a loss, and has at most so many records
-pub record IsRefutation (nodes : ℕ) (problem : Problem) (loss : ℕ) (log : List Entry)
-    : Type 0 where
-  pub refutes : Refutes (task_of problem (loss_charge problem.sizes)) loss log
-  pub few : length log ≤ nodes
+-- a log refutes a loss; its records are at most as many as the budget, thrifty, and those of a core
+-- run of this schedule
+pub record IsRefutation (limits : Limits) (schedule : List ℕ) (problem : Problem) (loss : ℕ)
+    (log : List Entry) : Type 0 where
+  pub refutes : Refutes (loss_task problem) loss log
+  pub few : length log ≤ limits.nodes
+  pub thrifty :
+      OfStartBound problem limits.moves (λ bound. AreThrifty (loss_task problem) bound log)
+  pub core_run : AreOfACoreRun limits schedule problem log
 
 -- there is such a log
-abbrev pub HasRefutation : ℕ → Problem → ℕ → Option Logged → Type 0
-HasRefutation nodes problem loss None = ⊥
-HasRefutation nodes problem loss (Some log) = IsRefutation nodes problem loss log.entries
+abbrev pub HasRefutation : Limits → List ℕ → Problem → ℕ → Option Logged → Type 0
+HasRefutation limits schedule problem loss None = ⊥
+HasRefutation limits schedule problem loss (Some log) =
+    IsRefutation limits schedule problem loss log.entries
 
--- an answer is right, and what is printed of it reads as this answer
-pub record IsTold (limits : Limits) (problem : Problem) (answer : Answer) : Type 0 where
-  pub solution : IsSolution limits problem answer
-  pub reads_back : IsAnswerText (length problem.orders) answer (text_lines (answer_text answer))
+-- an answer is right, what is printed of it reads as this answer, and the run behind it is there
+pub record IsTold (limits : Limits) (schedule : List ℕ) (problem : Problem) (told : Solution)
+    : Type 0 where
+  pub solution : IsSolution limits problem told.answer
+  pub reads_back :
+      IsAnswerText (length problem.orders) told.answer (text_lines (answer_text told.answer))
+  pub run : HandsOut limits schedule problem told.answer told.run
 
 -- what `solve` answers to a problem: it has no log
-pub record IsSolved (limits : Limits) (problem : Problem) (answer : Answer) : Type 0 where
-  pub told : IsTold limits problem answer
-  pub log : WhereOptimal (λ loss log. log ≡ None) answer
+pub record IsSolved (limits : Limits) (problem : Problem) (solution : Solution) : Type 0 where
+  pub told : IsTold limits [] problem solution
+  pub log : WhereOptimal (λ loss log. log ≡ None) solution.answer
 
--- what `prove` answers to a problem: where it is optimal it has a log that refutes its loss
-pub record IsProved (limits : Limits) (problem : Problem) (answer : Answer) : Type 0 where
-  pub told : IsTold limits problem answer
-  pub log : WhereOptimal (HasRefutation limits.nodes problem) answer
+-- what `prove` answers to a problem, and `replay` by a schedule: where it is optimal it has a log
+-- that refutes its loss
+pub record IsProved (limits : Limits) (schedule : List ℕ) (problem : Problem)
+    (solution : Solution) : Type 0 where
+  pub told : IsTold limits schedule problem solution
+  pub log : WhereOptimal (HasRefutation limits schedule problem) solution.answer
 
 -- Two answers to a problem agree. Optimal ones have one loss, though it may be that of several
 -- plans, with several logs, and a feasible one loses no less. Feasible ones spend one budget, and

@@ -1,5 +1,5 @@
-//! From an instance to an answer: a best plan, the best that a bounded search has found, or the
-//! first order that no slab holds.
+//! From an instance to an answer: a best plan, the best that a bounded search has found and the run
+//! behind it, or the first order that no slab holds.
 #![tactic(auto)]
 
 mod search;

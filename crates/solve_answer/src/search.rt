@@ -1,83 +1,133 @@
-ghost use Rattle.std.specs.Prelude.{◌≡◌, ◌<◌, ◌≤◌, All, length, IfOk};
+ghost use Rattle.std.specs.Prelude.{◌≡◌, ◌<◌, ◌≤◌, None, IfOk};
+ghost use Rattle.std.specs.List.{AllByRecursion};
 ghost use Rattle.answer_text.specs.Text.{Fits, most_orders};
-ghost use Rattle.solve_answer.specs.Search.{answer_from};
-ghost use Rattle.solve_answer.specs.Solved.{IsProved, IsSolved};
+ghost use Rattle.answer_text.specs.declared.answer.Answer.TheVariants.{Optimal};
+ghost use Rattle.mill_model.specs.Heavy.{NoneHeavy};
+ghost use Rattle.mill_model.specs.Instance.{largest};
 ghost use Rattle.mill_model.specs.declared.limits.TheConstants.{MAX_NODES};
+ghost use Rattle.solve_answer.specs.Search.{HasLogAsAsked, HasSearched};
+ghost use Rattle.solve_answer.specs.Solved.{IsProved, IsSolved, IsTold, WhereOptimal};
 
 use crate::start::beginning_of;
 use answer_text::Answer;
+use core_replay::replay;
 use instance_facts::first_heavy;
-use mill_model::{Instance, Limits, OutOfMemory};
-use refute_log::Log;
+use mill_model::{Instance, Limits, OutOfMemory, Plan};
+use piece_merge::merge;
+use refute_log::{Log, Run};
+use reply_text::Solution;
 use std::alloc::Global;
-use tree_search::{Found, prove_tree, search_tree};
 
-/// The answer to an instance: a best plan, or what was found until `limits.nodes` paths of
-/// the tree were closed. The search starts from a plan that was made better by `limits.moves`.
-pub fn solve(alloc: Global, instance: &Instance, limits: Limits) -> Result<Answer, OutOfMemory>
-    requires { limits.nodes ≤ MAX_NODES }
+/// The answer to an instance: a best plan, or what was found until `limits.nodes` paths of the tree
+/// were closed. The search starts from a plan that was made better by `limits.moves`.
+pub fn solve(alloc: Global, instance: &Instance, limits: Limits) -> Result<Solution, OutOfMemory>
+    requires some { 1 ≤ limits.workers }
+    requires few { limits.workers ≤ 64 }
+    requires nodes { limits.nodes ≤ MAX_NODES }
     ensures is { IfOk result (IsSolved limits instance.now) }
-    ensures told { IfOk result (λ answer. Fits (most_orders answer) answer) }
+    ensures told { IfOk result (λ solution.
+        Fits (most_orders solution.answer) solution.answer) }
 {
-    if let Some(order) = first_heavy(instance) {
-        return Ok(Answer::Infeasible { order });
-    }
-    let beginning = beginning_of(alloc, instance, limits.moves)?;
-    let start = beginning.start;
-    let found = search_tree(
-        alloc,
-        instance,
-        &beginning.ranked,
-        &beginning.charges,
-        start,
-        limits.nodes,
-    )?;
-    let answer = answer_of(alloc, found, None)?;
-    Ok(answer)
+    solution_of(alloc, instance, limits, &[], false)
 }
 
-/// The same, and with a best plan a log that refutes each lesser loss.
-pub fn prove(alloc: Global, instance: &Instance, limits: Limits) -> Result<Answer, OutOfMemory>
-    requires { limits.nodes ≤ MAX_NODES }
-    ensures is { IfOk result (IsProved limits instance.now) }
-    ensures told { IfOk result (λ answer. Fits (most_orders answer) answer) }
+/// The same with workers that take turns as a schedule says, and with a best plan a log that
+/// refutes each lesser loss.
+pub fn prove(
+    alloc: Global,
+    instance: &Instance,
+    limits: Limits,
+    schedule: &[u16],
+) -> Result<Solution, OutOfMemory>
+    requires some { 1 ≤ limits.workers }
+    requires few { limits.workers ≤ 64 }
+    requires nodes { limits.nodes ≤ MAX_NODES }
+    requires numbers { AllByRecursion (λ number. number < limits.workers) schedule.now }
+    ensures is { IfOk result (IsProved limits schedule.now instance.now) }
+    ensures told { IfOk result (λ solution.
+        Fits (most_orders solution.answer) solution.answer) }
 {
-    if let Some(order) = first_heavy(instance) {
-        return Ok(Answer::Infeasible { order });
-    }
-    let beginning = beginning_of(alloc, instance, limits.moves)?;
-    let start = beginning.start;
-    let proved = prove_tree(
-        alloc,
-        instance,
-        &beginning.ranked,
-        &beginning.charges,
-        start,
-        limits.nodes,
-    )?;
-    let answer = answer_of(alloc, proved.found, Some(proved.log))?;
-    Ok(answer)
+    solution_of(alloc, instance, limits, schedule, true)
 }
 
-// The answer that a search has found: a best plan where no path waits, with this log if there is
-// one, and else the plan that was found.
-fn answer_of(alloc: Global, found: Found, log: Option<Log>) -> Result<Answer, OutOfMemory>
-    requires { All (λ s. s < length found.best.plan) found.best.plan }
-    ensures { IfOk result (λ answer.
-        answer ≡ answer_from found.best found.waiting.items found.closed log) }
+// The answer to an instance, with a log of a best plan where that is asked for.
+fn solution_of(
+    alloc: Global,
+    instance: &Instance,
+    limits: Limits,
+    schedule: &[u16],
+    with_log: bool,
+) -> Result<Solution, OutOfMemory>
+    requires some { 1 ≤ limits.workers }
+    requires few { limits.workers ≤ 64 }
+    requires nodes { limits.nodes ≤ MAX_NODES }
+    requires numbers { AllByRecursion (λ number. number < limits.workers) schedule.now }
+    ensures is { IfOk result (IsTold limits schedule.now instance.now) }
+    ensures log { IfOk result (λ solution. WhereOptimal
+        (HasLogAsAsked with_log limits schedule.now instance.now) solution.answer) }
+    ensures told { IfOk result (λ solution.
+        Fits (most_orders solution.answer) solution.answer) }
 {
-    let loss = found.best.loss;
-    let plan = found.best.plan.tidy(alloc)?;
-    if found.waiting.is_empty() {
-        return Ok(Answer::Optimal {
-            loss,
-            plan,
-            refutation: log,
+    if let Some(order) = first_heavy(instance) {
+        return Ok(Solution {
+            answer: Answer::Infeasible { order },
+            run: None,
         });
     }
-    Ok(Answer::Feasible {
-        loss,
-        plan,
-        spent: found.closed,
-    })
+    let run = searched(alloc, instance, limits, schedule)?;
+    let loss = run.loss;
+    let plan = run.plan.tidy(alloc)?;
+    if !run.unclosed.is_empty() {
+        let spent = limits.nodes;
+        return Ok(Solution {
+            answer: Answer::Feasible { loss, plan, spent },
+            run: Some(run),
+        });
+    }
+    if !with_log {
+        return Ok(optimal(loss, plan, None));
+    }
+    let log = merge(alloc, instance.orders().len() as u16, run.pieces)?;
+    Ok(optimal(loss, plan, Some(log)))
+}
+
+// A best plan is answered, with its log if there is one.
+fn optimal(loss: u64, plan: Plan, refutation: Option<Log>) -> Solution
+    ensures { result ≡ record { answer = Optimal loss plan refutation; run = None } }
+{
+    Solution {
+        answer: Answer::Optimal {
+            loss,
+            plan,
+            refutation,
+        },
+        run: None,
+    }
+}
+
+// The run that searches an instance's tree.
+fn searched(
+    alloc: Global,
+    instance: &Instance,
+    limits: Limits,
+    schedule: &[u16],
+) -> Result<Run, OutOfMemory>
+    requires light { NoneHeavy (largest instance.now.sizes) instance.now.orders }
+    requires some { 1 ≤ limits.workers }
+    requires few { limits.workers ≤ 64 }
+    requires nodes { limits.nodes ≤ MAX_NODES }
+    requires numbers { AllByRecursion (λ number. number < limits.workers) schedule.now }
+    ensures { IfOk result (HasSearched limits schedule.now instance.now) }
+{
+    let beginning = beginning_of(alloc, instance, limits.moves)?;
+    let start = beginning.start;
+    let run = replay(
+        alloc,
+        &beginning.ranked,
+        &beginning.charges,
+        start,
+        limits,
+        schedule,
+    )?;
+    Ok(run)
 }

@@ -1,6 +1,7 @@
 //! The table of steps, row by row: the call on the hand, the answer and the next phase. The mill
 //! has the three orders that stand in rank as (2, 3), (1, 1) and (1, 2).
 
+use crate::closings::{Wanted, are_records};
 use crate::hand::{Answers, Call, TrialHand};
 use crate::mill::{THREE_ORDERS, all_fit, charges_to_four, path_of, ranked_of};
 use crate::steps::{Seen, unlike};
@@ -57,6 +58,9 @@ const SPENT: [Seen; 7] = [
     (None, Turn::Stopped, Phase::Ended),
     (None, Turn::Stopped, Phase::Ended),
 ];
+
+/// What is recorded by then.
+const TWO_SPLITS: [(&[u16], Wanted); 2] = [(&[], Wanted::Split), (&[0], Wanted::Split)];
 
 #[test]
 fn a_worker_goes_by_the_table(rt: HostRuntime) -> Result<(), Fail> {
@@ -115,7 +119,7 @@ fn a_worker_goes_by_the_table(rt: HostRuntime) -> Result<(), Fail> {
             .is_some_and(|path| path.numbers() == [0, 0].as_slice())
     );
     assert!(rt; end.waiting.is_empty() && end.best.is_none());
-    assert_eq!(rt; end.piece.entries().len(), 2);
+    assert!(rt; are_records(end.piece.entries(), &TWO_SPLITS));
     assert_eq!(rt; hand.last(), Some([0, 1].as_slice()));
     Ok(())
 }
@@ -131,8 +135,8 @@ const BETTER: [Seen; 7] = [
     (Some(Call::Publish(4)), Turn::Moved, Phase::Resting),
 ];
 
-/// Takes a path of all orders that loses as much as is known.
-const PLAIN: [Seen; 6] = [
+/// Takes a path whose record leaves nothing open.
+const CLOSED: [Seen; 6] = [
     (STANDS, Turn::Moved, Phase::Taking),
     (Some(Call::Take), Turn::Idle, Phase::Stealing),
     (Some(Call::Steal(1)), Turn::Moved, Phase::Holding),
@@ -140,6 +144,8 @@ const PLAIN: [Seen; 6] = [
     (Some(Call::Look), Turn::Moved, Phase::Closing),
     (None, Turn::Moved, Phase::Resting),
 ];
+
+const TWO_LEAVES: [(&[u16], Wanted); 2] = [(&[0, 0, 1], Wanted::Leaf), (&[0, 1, 0], Wanted::Leaf)];
 
 /// What is left of a worker that is given two paths of all orders, both of which lose 4.
 #[test]
@@ -155,11 +161,12 @@ fn a_plan_that_loses_less_is_told(rt: HostRuntime) -> Result<(), Fail> {
     hand.give(second);
     hand.give(first);
     assert_eq!(rt; unlike(&mut worker, &mut hand, &BETTER), None);
-    assert_eq!(rt; unlike(&mut worker, &mut hand, &PLAIN), None);
-    let best = worker.finish().best;
+    assert_eq!(rt; unlike(&mut worker, &mut hand, &CLOSED), None);
+    let end = worker.finish();
+    assert!(rt; are_records(end.piece.entries(), &TWO_LEAVES));
     // Ranks 0 and 1 are the third and the first order of the file.
     assert!(rt;
-        best.is_some_and(|best| best.loss == 4 && best.plan.slabs() == [0, 1, 0].as_slice())
+        end.best.is_some_and(|best| best.loss == 4 && best.plan.slabs() == [0, 1, 0].as_slice())
     );
     Ok(())
 }
@@ -175,8 +182,40 @@ fn a_plan_that_loses_as_much_as_another_is_not_kept(rt: HostRuntime) -> Result<(
     let mut hand = TrialHand::new(alloc, ranked, 0, 2, 9, 4);
     let path = path_of(alloc, ranked, &[0, 0, 1])?;
     hand.give(path);
-    assert_eq!(rt; unlike(&mut worker, &mut hand, &PLAIN), None);
+    assert_eq!(rt; unlike(&mut worker, &mut hand, &CLOSED), None);
     assert!(rt; worker.finish().best.is_none());
+    Ok(())
+}
+
+const BY_PRICES: [(&[u16], Wanted); 2] = [
+    (&[0, 0], Wanted::Priced(&[180])),
+    (&[0, 1], Wanted::Priced(&[-60])),
+];
+
+/// Where 4 is known, the worker's own or the least of all, the ascent closes the first path and a
+/// sweep the second.
+#[test]
+fn prices_close_a_path_without_children(rt: HostRuntime) -> Result<(), Fail> {
+    let alloc = rt.alloc();
+    let ranked = &ranked_of(alloc, 4, &THREE_ORDERS, 2)?;
+    let charges = &charges_to_four(alloc)?;
+    assert!(rt; ranked.largest() == 4 && all_fit(ranked));
+    for (own, least) in [(4, 9), (9, 4)] {
+        let first = path_of(alloc, ranked, &[0, 0])?;
+        let second = path_of(alloc, ranked, &[0, 1])?;
+        let mut worker = Worker::new(alloc, ranked, charges, 0, 2, own);
+        let mut hand = TrialHand::new(alloc, ranked, 0, 2, 9, least);
+        hand.answer(Answers {
+            standing: Some(Standing::Going),
+            least,
+            refuses: false,
+        });
+        hand.give(second);
+        hand.give(first);
+        assert_eq!(rt; unlike(&mut worker, &mut hand, &CLOSED), None);
+        assert_eq!(rt; unlike(&mut worker, &mut hand, &CLOSED), None);
+        assert!(rt; are_records(worker.finish().piece.entries(), &BY_PRICES));
+    }
     Ok(())
 }
 

@@ -17,6 +17,6 @@ pub fn serve(alloc: Global, job: Job, input: &[u8]) -> Result<Outcome, Stop>
     ensures told { IfOk result IsToTell }
 {
     let instance = read_alone(alloc, job, input)?;
-    let answer = prove(alloc, &instance, job.limits)?;
-    Ok(Outcome::Solved(answer))
+    let solution = prove(alloc, &instance, job.limits, &[])?;
+    Ok(Outcome::Solved(solution))
 }

@@ -18,6 +18,6 @@ pub fn serve(alloc: Global, job: Job, input: &[u8]) -> Result<Outcome, Stop>
     ensures told { IfOk result IsToTell }
 {
     let instance = read_alone(alloc, job, input)?;
-    let answer = solve(alloc, &instance, job.limits)?;
-    Ok(Outcome::Solved(answer))
+    let solution = solve(alloc, &instance, job.limits)?;
+    Ok(Outcome::Solved(solution))
 }

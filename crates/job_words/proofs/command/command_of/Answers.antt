@@ -11,4 +11,4 @@ returns-clause-some c =
     c.args.word.now ≡ spelling command))) (sym c.in_ok-served.ensures)
     (found (λ name meaning. IfSome meaning (λ command. name ≡ spelling command))
     c.args.word.now
-    (map (λ row. (row.0.now, row.1)) COMMANDS) (refl, (refl, (refl, (refl, (tt, (tt, tt)))))))
+    (map (λ row. (row.0.now, row.1)) COMMANDS) (refl, (refl, (refl, (refl, (refl, (tt, tt)))))))

@@ -10,11 +10,11 @@ new-requires c =
     let sizes_is : c.in_ok-sizes.sizes.items ≡ c.largest-largest.result ∷ [] = search rules in
     let is_size : IsSize c.largest-largest.result =
     (c.largest-largest.ensures.low, c.largest-largest.ensures.high) in
-    let limits = within c.args.ranked.now c.p-p.ensures.kept c.args.coloured.now c.requires
-    c.largest-largest.result c.p-p.result is_size c.p-p.ensures.low c.p-p.ensures.high in
-    subst (λ (os : List Order). IsWithin c.in_ok-sizes.sizes.items 0 os c.p-p.result)
+    let limits = within c.args.ranked.now c.p.ensures.kept c.args.coloured.now c.requires
+    c.largest-largest.result c.p.result is_size c.p.ensures.low c.p.ensures.high in
+    subst (λ (os : List Order). IsWithin c.in_ok-sizes.sizes.items 0 os c.p.result)
     (sym c.in_ok-orders.ensures)
-    (subst (λ (sizes : List ℕ). IsWithin sizes 0 (orders_of c.args.coloured.now) c.p-p.result)
+    (subst (λ (sizes : List ℕ). IsWithin sizes 0 (orders_of c.args.coloured.now) c.p.result)
     (sym sizes_is) limits)
 
 pub returns-clause-mill : goal.returns-clause-mill
@@ -25,5 +25,5 @@ returns-clause-mill c =
     (subst (λ (sizes : List ℕ). AreSizesOf sizes c.new.result.sizes) sizes_is
     c.new.ensures.sizes) ∙ c.largest-largest.ensures.is in
     let p_is : c.new.result.p ≡ c.args.ranked.now.mill.most_colours =
-    c.new.ensures.p ∙ c.p-p.ensures.is in
+    c.new.ensures.p ∙ c.p.ensures.is in
     λ i. record { largest = largest_is i; most_colours = p_is i }

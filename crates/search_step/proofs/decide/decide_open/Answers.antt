@@ -9,10 +9,6 @@ use Rattle.search_step.specs.Steps.{task_at}
 use Rattle.search_step.specs.declared.parts.Verdict.TheVariants.{Open}
 use Rattle.search_step.proofs.Deciding.{open-noted, open-plain}
 use Rattle.search_step.proofs.decide.decide_open.Goals as goal
-use Rattle.search_step.proofs.decide.decide_open.Goals.{}
-use Rattle.search_step.proofs.decide.decide_open.Goals.{}
-use Rattle.search_step.proofs.decide.decide_open.Goals.{then-starts_class+in_ok-key+in_default+in_ok-copy-2}
-use Rattle.search_step.proofs.decide.decide_open.Goals.{else-starts_class}
 
 pub returns : goal.returns
 returns c =
@@ -23,7 +19,7 @@ returns c =
     ≡ children node.ranked.mill (orders_of node.ranked) node.path =
     c.in_ok-list.ensures.is in
     elim c.if-starts_class.branch [
-      | then-starts_class+in_ok-key+in_default+in_ok-copy-2 w ↦ (
+      | goal.then-starts_class+in_ok-key+in_default+in_ok-copy-2 w ↦ (
           let start : starts (task_at node.ranked charges) node.path ≡ true = search rules in
           let none : None ≡ path_of (found store.entries w.in_ok-key.key w.dead_loss-dead.result) =
           search rules in
@@ -37,7 +33,7 @@ returns c =
           (open-noted node.ranked charges node.path store start w.in_ok-key.key
           w.dead_loss-dead.result w.in_ok-key.ensures w.dead_loss-dead.ensures
           c.in_ok-list.list.items inside none))
-      | else-starts_class w ↦ (
+      | goal.else-starts_class w ↦ (
           let start : starts (task_at node.ranked charges) node.path ≡ false = search rules in
           let note : c.if-starts_class.note ≡ None = search rules in
           subst (λ (n : Option Noted). DecidesOpen node.ranked charges store node.path

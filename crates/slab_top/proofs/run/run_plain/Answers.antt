@@ -1,20 +1,23 @@
 -- What the parts of the call give, put together: an output that is right, that every right one
 -- agrees with it, and the cause of each failure.
-use Rattle.std.proofs.Common.{[], ◌∙◌, refl, sym, subst}
+use Rattle.std.proofs.Common.{◌≢◌, [], ◌∙◌, refl, sym, subst, arith}
+use Rattle.std.specs.Prelude.{IsSome}
 use Rattle.std.proofs.lemmas.List.{append-nil}
 use Rattle.std.specs.Io.KnownBytes.{Appends}
 use Rattle.mill_io.specs.Bytes.{AppendsFront}
 use Rattle.job_words.specs.Words.{texts}
+use Rattle.reply_text.specs.declared.status.TheConstants.{WRITE_FAULT}
 use Rattle.slab_top.specs.Served.{WrongWords, Answered}
 use Rattle.slab_top.specs.Agree.{MayEndWith}
 use Rattle.slab_top.specs.Run.{IsOwnStatus}
 use Rattle.slab_top.proofs.Replying.{agree-status, outcome-own}
 use Rattle.slab_top.proofs.Rights.{right-agree, enough-served, ended-for, wrong-agree, unread-for}
+use Rattle.slab_top.proofs.Rights.{served-run, none-kept}
 use Rattle.slab_top.proofs.Given.{served-whole-of, served-none, enough-given}
 use Rattle.slab_top.proofs.run.run_plain.Goals as goal
 
-pub write_out-requires : goal.write_out-requires
-write_out-requires g c = record {
+pub write_out-status-requires : goal.write_out-status-requires
+write_out-status-requires g c = record {
   own = subst IsOwnStatus (sym c.in-Ok-reply.ensures.status)
       (outcome-own c.in-Ok-outcome_of.outcome);
 }
@@ -25,15 +28,35 @@ pub returns-in-Ok-reply-clause-answered : goal.returns-in-Ok-reply-clause-answer
 returns-in-Ok-reply-clause-answered g c whole = (
   Answered c.in-Ok-outcome_of.outcome,
   (c.in-Ok.job, c.in-Ok.ensures.job, c.in-Ok-outcome_of.ensures.served),
-  c.write_out.ensures.status whole.written ∙ c.in-Ok-reply.ensures.status,
-  subst (Appends _ _) c.in-Ok-reply.ensures.text (c.write_out.ensures.whole whole.written),
+  c.write_out-status.ensures.status whole.written ∙ c.in-Ok-reply.ensures.status,
+  subst (Appends _ _) c.in-Ok-reply.ensures.text (c.write_out-status.ensures.whole whole.written),
+  c.run_behind.ensures.written whole.written,
 )
+
+-- with the run behind it where it is feasible,
+
+pub returns-in-Ok-reply-clause-kept : goal.returns-in-Ok-reply-clause-kept
+returns-in-Ok-reply-clause-kept g c feasible =
+    let outcome = c.in-Ok-outcome_of.outcome in
+    let hands = served-run c.in-Ok.job _ outcome c.in-Ok-outcome_of.ensures.served in
+    let written : c.write_out-status.result ≢ WRITE_FAULT = λ failed. omega (arith, feasible, failed) in
+    let status = c.write_out-status.ensures.status written ∙ c.in-Ok-reply.ensures.status in
+    subst IsSome (sym (c.run_behind.ensures.written written)) (hands.feasible (sym status
+    ∙ feasible))
+
+pub returns-in-Ok-reply-clause-none_kept : goal.returns-in-Ok-reply-clause-none_kept
+returns-in-Ok-reply-clause-none_kept g c =
+    let outcome = c.in-Ok-outcome_of.outcome in
+    none-kept outcome c.write_out-status.result c.run_behind.result
+    (served-run c.in-Ok.job _ outcome c.in-Ok-outcome_of.ensures.served)
+    (λ written. c.write_out-status.ensures.status written ∙ c.in-Ok-reply.ensures.status)
+    c.run_behind.ensures.written c.run_behind.ensures.failed
 
 pub returns-in-Ok-reply-clause-front : goal.returns-in-Ok-reply-clause-front
 returns-in-Ok-reply-clause-front g c failed = (
   Answered c.in-Ok-outcome_of.outcome,
   (c.in-Ok.job, c.in-Ok.ensures.job, c.in-Ok-outcome_of.ensures.served),
-  subst (AppendsFront _ _) c.in-Ok-reply.ensures.text (c.write_out.ensures.front failed),
+  subst (AppendsFront _ _) c.in-Ok-reply.ensures.text (c.write_out-status.ensures.front failed),
 )
 
 -- and agrees with each other that is.
@@ -45,13 +68,13 @@ returns-in-Ok-reply-clause-told g c whole told output right = (
       (λ other asked. let same = c.in-Ok.ensures.asked other asked in cc)
       c.in-Ok-outcome_of.outcome output c.in-Ok.ensures.job told
       c.in-Ok-outcome_of.ensures.served right,
-  subst (Appends _ _) c.in-Ok-reply.ensures.text (c.write_out.ensures.whole whole.written),
+  subst (Appends _ _) c.in-Ok-reply.ensures.text (c.write_out-status.ensures.whole whole.written),
 )
 
 pub returns-in-Ok-reply-clause-exact : goal.returns-in-Ok-reply-clause-exact
 returns-in-Ok-reply-clause-exact g c whole told output right =
     let own = c.in-Ok-outcome_of.outcome in
-    let status = c.write_out.ensures.status whole.written ∙ c.in-Ok-reply.ensures.status in
+    let status = c.write_out-status.ensures.status whole.written ∙ c.in-Ok-reply.ensures.status in
     subst (MayEndWith output) (sym status)
     (agree-status (Answered own) output (right-agree (texts c.args.words.now) c.in-Ok.job _
     (λ other asked. let same = c.in-Ok.ensures.asked other asked in cc) own output
@@ -61,8 +84,8 @@ pub returns-in-Ok-reply-clause-enough : goal.returns-in-Ok-reply-clause-enough
 returns-in-Ok-reply-clause-enough g c =
     enough-served (texts c.args.words.now) c.in-Ok.job _
     (λ other asked. let same = c.in-Ok.ensures.asked other asked in cc)
-    c.in-Ok-outcome_of.outcome c.write_out.result c.in-Ok-outcome_of.ensures.served
-    (λ written. c.write_out.ensures.status written ∙ c.in-Ok-reply.ensures.status)
+    c.in-Ok-outcome_of.outcome c.write_out-status.result c.in-Ok-outcome_of.ensures.served
+    (λ written. c.write_out-status.ensures.status written ∙ c.in-Ok-reply.ensures.status)
 
 pub returns-in-Ok-reply-clause-ended : goal.returns-in-Ok-reply-clause-ended
 returns-in-Ok-reply-clause-ended g c whole =
@@ -78,6 +101,7 @@ returns-in-Ok-write_usage-clause-answered g c whole = (
   λ job asked. let error = c.in_default.ensures.asked job asked in absurd (cc),
   refl,
   c.in-Ok-write_usage.ensures.ok,
+  refl,
 )
 
 pub returns-in-Ok-write_usage-clause-told : goal.returns-in-Ok-write_usage-clause-told
@@ -116,8 +140,9 @@ returns-in-Ok-reply-clause-given g c whole =
       served-whole-of (texts c.args.words.now) c.in-Ok.job _ _ _ c.in-Ok-outcome_of.outcome
           c.in-Ok.ensures.job (λ other asked. let same = c.in-Ok.ensures.asked other asked in cc)
           answered,
-      c.write_out.ensures.status whole.written ∙ c.in-Ok-reply.ensures.status,
-      subst (Appends _ _) c.in-Ok-reply.ensures.text (c.write_out.ensures.whole whole.written),
+      c.write_out-status.ensures.status whole.written ∙ c.in-Ok-reply.ensures.status,
+      subst (Appends _ _) c.in-Ok-reply.ensures.text (c.write_out-status.ensures.whole whole.written),
+      c.run_behind.ensures.written whole.written,
     )
 
 pub returns-in-Ok-reply-clause-given_front : goal.returns-in-Ok-reply-clause-given_front
@@ -129,15 +154,15 @@ returns-in-Ok-reply-clause-given_front g c failed =
       served-whole-of (texts c.args.words.now) c.in-Ok.job _ _ _ c.in-Ok-outcome_of.outcome
           c.in-Ok.ensures.job (λ other asked. let same = c.in-Ok.ensures.asked other asked in cc)
           answered,
-      subst (AppendsFront _ _) c.in-Ok-reply.ensures.text (c.write_out.ensures.front failed),
+      subst (AppendsFront _ _) c.in-Ok-reply.ensures.text (c.write_out-status.ensures.front failed),
     )
 
 pub returns-in-Ok-reply-clause-given_enough : goal.returns-in-Ok-reply-clause-given_enough
 returns-in-Ok-reply-clause-given_enough g c =
     enough-given (texts c.args.words.now) c.in-Ok.job _ _ _ c.in-Ok-outcome_of.outcome
     c.in-Ok.ensures.job (λ other asked. let same = c.in-Ok.ensures.asked other asked in cc)
-    c.in-Ok-outcome_of.ensures.given c.write_out.result
-    (λ written. c.write_out.ensures.status written ∙ c.in-Ok-reply.ensures.status)
+    c.in-Ok-outcome_of.ensures.given c.write_out-status.result
+    (λ written. c.write_out-status.ensures.status written ∙ c.in-Ok-reply.ensures.status)
 
 -- and where they ask for nothing.
 
@@ -150,6 +175,7 @@ returns-in-Ok-write_usage-clause-given g c whole = (
       (λ job asked. let error = c.in_default.ensures.asked job asked in absurd (cc)),
   refl,
   c.in-Ok-write_usage.ensures.ok,
+  refl,
 )
 
 pub returns-in-Err-clause-given_front : goal.returns-in-Err-clause-given_front

@@ -4,7 +4,6 @@ use Rattle.std.proofs.Common.{◌≤◌, sym, subst}
 use Rattle.mill_model.specs.Charges.{Reaches, charge_of}
 use Rattle.mill_model.specs.Instance.{largest, mill_of}
 use Rattle.mill_model.specs.Pairs.{IsPossibleStart}
-use Rattle.mill_model.specs.Plan.{IsPlanWithLoss}
 use Rattle.instance_facts.proofs.Charged.{table-is-charge}
 use Rattle.solve_answer.proofs.PossibleStarts.{ranked-each}
 use Rattle.solve_answer.proofs.start.beginning_of.Goals as goal
@@ -36,8 +35,7 @@ returns c =
       beginning = record {
         charged = charged;
         ranked = rank;
-        begins = subst (λ mill. IsPlanWithLoss mill (charge_of charges) problem.orders start.plan
-            start.loss) rank.mill (c.in_ok-start.ensures.start problem.orders rank.placed);
+        begins = record { plan = c.in_ok-start.ensures.start };
         possible = subst (λ charge. IsPossibleStart (mill_of problem) charge problem.orders
             c.args.moves start.plan) (table-is-charge problem charges charged) possible;
       };

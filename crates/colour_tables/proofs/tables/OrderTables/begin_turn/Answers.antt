@@ -10,7 +10,7 @@ use Rattle.set_minima.specs.Cells.{AreNear}
 use Rattle.set_minima.specs.Packs.{nobody}
 use Rattle.colour_tables.specs.PricedOrders.{PricedOrders}
 use Rattle.mill_model.specs.declared.order.Order.{Order}
-use Rattle.colour_tables.proofs.KnownColours.{absent}
+use Rattle.colour_tables.proofs.KnownColours.{order-known}
 use Rattle.colour_tables.proofs.TurnTables.{turn-from}
 use Rattle.colour_tables.proofs.tables.OrderTables.begin_turn.Goals as goal
 use Rattle.mill_model.specs.Limits.{all_prices}
@@ -68,38 +68,10 @@ returns-in-Some-clause-turn c =
 
 pub returns-in-None-clause-turn : goal.returns-in-None-clause-turn
 returns-in-None-clause-turn c =
-    let t = c.self.inside in
-    let all = subst (λ xs. (i : ℕ) → i < length t.rest.items →
-    holds (colour_at t.rest.items i) (map (λ c. get_or t.colours.items c 0) xs) ≡ true)
-    c.self.invariant.present c.self.invariant.row_tables.all in
-    let here : c.args.place < length t.rest.items =
-    subst (λ (o : PricedOrders). c.args.place < length o.rest) (sym c.self.view_is)
-    c.requires.here in
-    let same : c.order.result ≡ get_or t.rest.items c.args.place nobody =
-    subst (λ (o : PricedOrders). c.order.result ≡ get_or o.rest c.args.place nobody)
-    (sym c.self.view_is) c.order.ensures in
-    let x = colour_at t.rest.items c.args.place in
-    absurd (clash (eqb x x) (eq-eqb x x refl) (absent t.rest.items t.colours.items all x
-    (subst (λ (o : Order). holds o.colour t.colours.items ≡ false) same
-    (subst (λ xs. holds c.order.result.colour xs ≡ false) c.deref.ensures.value
-    (c.in-None.ensures.none refl)))
-    c.args.place here))
+    absurd (order-known c.self.invariant c.self.view_is c.deref.ensures.value c.args.place
+    c.order.result c.requires.here c.order.ensures c.in-None.ensures)
 
 pub returns-in-None-clause-place : goal.returns-in-None-clause-place
 returns-in-None-clause-place c =
-    let t = c.self.inside in
-    let all = subst (λ xs. (i : ℕ) → i < length t.rest.items →
-    holds (colour_at t.rest.items i) (map (λ c. get_or t.colours.items c 0) xs) ≡ true)
-    c.self.invariant.present c.self.invariant.row_tables.all in
-    let here : c.args.place < length t.rest.items =
-    subst (λ (o : PricedOrders). c.args.place < length o.rest) (sym c.self.view_is)
-    c.requires.here in
-    let same : c.order.result ≡ get_or t.rest.items c.args.place nobody =
-    subst (λ (o : PricedOrders). c.order.result ≡ get_or o.rest c.args.place nobody)
-    (sym c.self.view_is) c.order.ensures in
-    let x = colour_at t.rest.items c.args.place in
-    absurd (clash (eqb x x) (eq-eqb x x refl) (absent t.rest.items t.colours.items all x
-    (subst (λ (o : Order). holds o.colour t.colours.items ≡ false) same
-    (subst (λ xs. holds c.order.result.colour xs ≡ false) c.deref.ensures.value
-    (c.in-None.ensures.none refl)))
-    c.args.place here))
+    absurd (order-known c.self.invariant c.self.view_is c.deref.ensures.value c.args.place
+    c.order.result c.requires.here c.order.ensures c.in-None.ensures)

@@ -6,7 +6,7 @@ use Rattle.colour_tables.specs.PricedOrders.{PricedOrders}
 use Rattle.mill_model.specs.declared.order.TheConstants.{MAX_ORDERS}
 use Rattle.set_minima.specs.Cells.{IsSmall}
 use Rattle.colour_tables.specs.Entries.{AreSmallAll}
-use Rattle.colour_tables.specs.Leasts.{slack_limit}
+use Rattle.colour_tables.specs.Leasts.{table_slack_limit}
 use Rattle.colour_tables.specs.Leasts.{two_colours}
 use Rattle.std.specs.List.{list_any}
 use Rattle.colour_tables.proofs.SlacksWithin.{least_of-within}
@@ -33,6 +33,6 @@ returns-clause-small c =
     let few = subst (λ (o : PricedOrders). length o.prices ≤ MAX_ORDERS) c.self.view_is
     (omega (arith, i.few, i.row_tables.same)) in
     let priced = subst (λ (o : PricedOrders). AreSmallAll o.prices) c.self.view_is i.priced in
-    subst (λ found. IfSome found (IsSmall slack_limit)) (sym (returns-clause-is c))
+    subst (λ found. IfSome found (IsSmall table_slack_limit)) (sym (returns-clause-is c))
     (least_of-within o.charges o.rest o.prices few priced (two_colours o.largest) []
     (list_any (λ mark. mark)))

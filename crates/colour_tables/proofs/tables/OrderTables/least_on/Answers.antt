@@ -6,7 +6,7 @@ use Rattle.colour_tables.proofs.PaidCharges.{charged-from, room-of}
 use Rattle.mill_model.specs.declared.order.TheConstants.{MAX_ORDERS}
 use Rattle.set_minima.specs.Cells.{IsSmall}
 use Rattle.colour_tables.specs.Entries.{AreSmallAll}
-use Rattle.colour_tables.specs.Leasts.{slack_limit}
+use Rattle.colour_tables.specs.Leasts.{table_slack_limit}
 use Rattle.colour_tables.specs.Leasts.{two_colours}
 use Rattle.colour_tables.proofs.SlacksWithin.{known-stands, least_slack-within, stand-in}
 use Rattle.colour_tables.proofs.tables.OrderTables.least_on.Goals as goal
@@ -41,5 +41,6 @@ returns-clause-small c =
     let priced = subst (λ (o : PricedOrders). AreSmallAll o.prices) c.self.view_is i.priced in
     let e = returns-clause-is c (stand-in c.args.slab.load c.requires.known.own)
     (known-stands _ c.args.slab c.requires.known) in
-    subst (IsSmall slack_limit) (sym e) (least_slack-within o.charges o.rest o.prices few priced
+    subst (IsSmall table_slack_limit) (sym e)
+    (least_slack-within o.charges o.rest o.prices few priced
     (two_colours o.largest) (stand-in c.args.slab.load c.requires.known.own))

@@ -1,17 +1,12 @@
 -- Whichever tables serve the node, what they say of a group holds of the node's.
-use Rattle.std.proofs.Common.{◌∙◌, ◌<◌, ℕ, ℤ, List, sym, ap, subst, SFits, w64, to_z-of_z}
-use Rattle.std.proofs.Common.{rules}
+use Rattle.std.proofs.Common.{◌∙◌, ℕ, ℤ, List, rules, subst, ap, SFits, w64, to_z-of_z}
 use Rattle.colour_tables.specs.Grouped.{GroupedOrders}
 use Rattle.mill_model.specs.Prices.{least_slack}
 use Rattle.mill_model.specs.Slab.{Mill}
-use Rattle.mill_model.specs.Tree.{next_new}
 use Rattle.mill_model.specs.declared.order.Order.{Order}
-use Rattle.split_tree.specs.Node.{Node, group_of}
-use Rattle.split_tree.proofs.Losses.{group-at}
 use Rattle.column_price.specs.Nodes.{Pricing}
 use Rattle.column_price.specs.Served.{Serves}
-use Rattle.column_price.proofs.AtNode.{its-mill}
-use Rattle.column_price.proofs.Served.{known-group, by-colours, by-layers}
+use Rattle.column_price.proofs.Served.{group-mill, on-colours, on-layers}
 use Rattle.column_price.proofs.slacks.LeastSlacks.on_group.Goals as goal
 use Rattle.column_price.proofs.slacks.LeastSlacks.on_group.Goals.{in-Colours, in-Layers}
 
@@ -22,10 +17,9 @@ least_on-requires-in-Layers-clause-mill c =
       charges = c.self.inside.charges.now;
       prices = c.self.inside.prices.items;
     } in
-    let serves = subst (Serves inside) c.in-Layers.is c.self.invariant.2 in
-    let group = group-at inside.node c.groups-groups.result.now c.groups-groups.ensures.is c.args.g
-    c.index-groups-g.result (search rules) c.index-groups-g.is in
-    group.mill ∙ sym (its-mill inside.node c.in-Layers.knapsack serves.0)
+    group-mill inside c.in-Layers.knapsack (subst (Serves inside) c.in-Layers.is c.self.invariant.2)
+    c.groups-groups.result.now c.groups-groups.ensures.is c.args.g c.index-groups-g.result
+    (search rules) c.index-groups-g.is
 
 pub returns-clause-is : goal.returns-clause-is
 returns-clause-is c =
@@ -34,25 +28,21 @@ returns-clause-is c =
       charges = c.self.inside.charges.now;
       prices = c.self.inside.prices.items;
     } in
-    let here : c.args.g < next_new inside.node.path =
-    subst (λ (p : Pricing). c.args.g < next_new p.node.path) (sym c.self.view_is)
-    c.requires.group in
-    let slack = λ (node : Node) (mill : Mill) (charge : ℕ → ℕ) (rest : List Order)
-    (prices : List ℤ). least_slack mill charge (group_of node c.args.g) rest prices in
+    let found = λ (group : List Order) (mill : Mill) (charge : ℕ → ℕ) (rest : List Order)
+    (prices : List ℤ). least_slack mill charge group rest prices in
     elim c.match-self.branch [
       | in-Colours w ↦ (let of = subst (Serves inside) w.in-Colours.is c.self.invariant.2 in
-          let group = known-group inside.node w.in-Colours.tables.groups of.groups c.args.g here in
           let f : SFits w64 w.least_on.result = search rules in
           (simp to_z-of_z at w.result-is)
-          ∙ by-colours c.args.self.now inside c.self.view_is slack w.in-Colours.tables.prices
-          (ap (λ (t : GroupedOrders). t.prices) of.same) w.least_on.result w.in-Colours.tables of
-          (w.least_on.ensures.is (group_of inside.node c.args.g) group.carries))
-      | in-Layers w ↦ (let serves = subst (Serves inside) w.in-Layers.is c.self.invariant.2 in
-          let group = group-at inside.node c.groups-groups.result.now c.groups-groups.ensures.is
-          c.args.g w.index-groups-g.result (search rules) w.index-groups-g.is in
-          let f : SFits w64 w.least_on-in-Layers.result = search rules in
+          ∙ on-colours c.args.self.now inside c.self.view_is found c.args.g
+          w.in-Colours.tables.prices (ap (λ (t : GroupedOrders). t.prices) of.same)
+          w.least_on.result w.in-Colours.tables of c.requires.group
+          (λ group carries fits. w.least_on.ensures.is group carries))
+      | in-Layers w ↦ (let f : SFits w64 w.least_on-in-Layers.result = search rules in
           (simp to_z-of_z at w.result-is)
-          ∙ by-layers c.args.self.now inside c.self.view_is slack w.deref.result.now
-          w.deref.ensures.value w.least_on-in-Layers.result w.in-Layers.knapsack serves
-          (w.least_on-in-Layers.ensures.is (group_of inside.node c.args.g) group.carries))
+          ∙ on-layers c.args.self.now inside c.self.view_is found c.args.g w.deref.result.now
+          w.deref.ensures.value w.least_on-in-Layers.result w.in-Layers.knapsack
+          (subst (Serves inside) w.in-Layers.is c.self.invariant.2) c.groups-groups.result.now
+          c.groups-groups.ensures.is w.index-groups-g.result (search rules) w.index-groups-g.is
+          w.least_on-in-Layers.ensures.is)
     ]

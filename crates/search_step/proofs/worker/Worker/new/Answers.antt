@@ -1,7 +1,7 @@
 use Rattle.std.proofs.Common.{sym, subst}
 use Rattle.search_step.specs.Honest.{IsHonest}
 use Rattle.search_step.specs.Parts.{Parts}
-use Rattle.search_step.proofs.Honesty.{new-honest}
+use Rattle.search_step.proofs.StaysHonest.{new-honest}
 use Rattle.search_step.proofs.worker.Worker.new.Goals as goal
 
 pub returns-clause-honest : goal.returns-clause-honest

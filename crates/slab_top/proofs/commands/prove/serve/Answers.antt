@@ -1,5 +1,11 @@
-use Rattle.job_words.specs.declared.option.Setting.TheVariants.{Nodes}
+use Rattle.job_words.specs.declared.option.Setting.TheVariants.{Workers, Nodes}
 use Rattle.slab_top.proofs.commands.prove.serve.Goals as goal
 
-pub prove-requires : goal.prove-requires
-prove-requires c = (c.requires.in_range Nodes).1
+pub prove-requires-clause-some : goal.prove-requires-clause-some
+prove-requires-clause-some c = (c.requires.in_range Workers).0
+
+pub prove-requires-clause-few : goal.prove-requires-clause-few
+prove-requires-clause-few c = (c.requires.in_range Workers).1
+
+pub prove-requires-clause-nodes : goal.prove-requires-clause-nodes
+prove-requires-clause-nodes c = (c.requires.in_range Nodes).1

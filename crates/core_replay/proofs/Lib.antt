@@ -1,0 +1,7 @@
+mod Members
+mod HandTurns
+mod Ready
+mod Fits
+mod DequeChanges
+mod CrewTurns
+mod Loops

@@ -1,0 +1,5 @@
+pub mod Lists
+pub mod Plain
+pub mod Crew
+pub mod Replayed
+pub mod Resumed

@@ -1,0 +1,152 @@
+ghost use Rattle.std.specs.Prelude.{◌≡◌, ◌≤◌, ◌++◌, All, IfOk, OnOk, map, flat_map};
+ghost use Rattle.mill_model.specs.Charges.{Reaches};
+ghost use Rattle.order_symmetry.specs.Ranked.{orders_of};
+ghost use Rattle.search_step.specs.Promise.{records_of};
+ghost use Rattle.search_step.specs.Serving.{IsPathOf};
+ghost use Rattle.core_machine.specs.Core.{pieces_of, unclosed_by, unclosed_of};
+ghost use Rattle.core_machine.specs.Kept.{best_of, better_of};
+ghost use Rattle.core_replay.specs.Crew.{entries_of, new_crew, parts_of, with_given};
+ghost use Rattle.core_replay.specs.Replayed.{start_of};
+
+use crate::plain_hand::PlainHand;
+use mill_model::{Charges, Limits, OutOfMemory, Path, Start};
+use order_symmetry::Ranked;
+use refute_log::{Piece, Run};
+use search_step::{Hand, Worker, WorkerEnd};
+use std::alloc::Global;
+use std::marker::Model;
+
+// Workers that take turns over one hand.
+#[derive(Drop)]
+pub(crate) struct Crew<'a> {
+    charges: &'a Charges,
+    pub(crate) hand: PlainHand<'a>,
+    pub(crate) workers: Vec<Worker<'a>>,
+}
+
+impl<'a> Model for Crew<'a> {
+    ghost use Rattle.core_replay.specs.Crew.{CrewState, IsCrew, parts_of};
+
+    ghost Value = { CrewState };
+
+    ghost view = { λ c. record {
+      ranked = c.hand.ranked;
+      charges = c.charges.now;
+      budget = c.hand.budget;
+      core = record { shared = c.hand.shared; workers = parts_of c.workers.items };
+    } };
+
+    ghost invariant = { λ c. IsCrew c.hand.ranked c.charges.now c.hand.workers c.workers.items };
+}
+
+impl<'a> Crew<'a> {
+    // New workers that know this loss, over a hand with no path and so many tickets drawn.
+    pub(crate) fn new(
+        alloc: Global,
+        ranked: &'a Ranked,
+        charges: &'a Charges,
+        limits: &Limits,
+        loss: u64,
+        drawn: u64,
+    ) -> Result<Crew<'a>, OutOfMemory>
+        requires light { All (λ order. order.weight ≤ ranked.now.mill.largest)
+            (orders_of ranked.now) }
+        requires reach { Reaches charges.now ranked.now.mill }
+        requires some { 1 ≤ limits.now.workers }
+        requires few { limits.now.workers ≤ 64 }
+        ensures { IfOk result (λ crew. crew ≡ new_crew ranked.now charges.now limits.now.nodes
+            limits.now.workers loss drawn) }
+    {
+        let count = limits.workers;
+        let hand = PlainHand::new(alloc, ranked, count, loss, limits.nodes, drawn)?;
+        let mut workers = Vec::with_capacity(alloc, usize::from(count))?;
+        for number in 0..count {
+            workers.push(Worker::new(alloc, ranked, charges, number, count, loss))?;
+        }
+        Ok(Crew {
+            charges,
+            hand,
+            workers,
+        })
+    }
+
+    // Puts a path last in deque 0, before the first turn.
+    pub(crate) fn give(&mut self, path: Path) -> Result<(), OutOfMemory>
+        requires { IsPathOf self.old.ranked path }
+        ensures given { IfOk result (λ _. self.new ≡ with_given self.old path) }
+    {
+        self.hand.serve(0, false);
+        self.hand.push(path).map_err(|_| OutOfMemory)
+    }
+
+    // Ends the workers. Their pieces come after the given ones, and the run's plan is the best of
+    // the start's and theirs.
+    pub(crate) fn leave(
+        self,
+        alloc: Global,
+        mut pieces: Vec<Piece>,
+        start: Start,
+    ) -> Result<Run, OutOfMemory>
+        ensures pieces { IfOk result (λ run. records_of run
+            ≡ entries_of pieces.items ++ pieces_of self.entry.core) }
+        ensures unclosed { IfOk result (λ run. run.unclosed.items
+            ≡ unclosed_of self.entry.core) }
+        ensures best { IfOk result (λ run. start_of run
+            ≡ best_of start self.entry.core.workers) }
+        ensures drawn { IfOk result (λ run. run.drawn ≡ self.entry.core.shared.drawn) }
+    {
+        let mut unclosed = Vec::new(alloc);
+        let best = end_all(self.workers, &mut pieces, &mut unclosed, start)?;
+        let drawn = self.hand.drawn();
+        self.hand.empty_into(&mut unclosed)?;
+        Ok(Run {
+            pieces,
+            unclosed,
+            plan: best.plan,
+            loss: best.loss,
+            drawn,
+        })
+    }
+}
+
+// Ends workers. It appends their pieces, and the paths that they hold or let wait, and gives the
+// best of a plan and theirs.
+fn end_all(
+    workers: Vec<Worker>,
+    pieces: &mut Vec<Piece>,
+    unclosed: &mut Vec<Path>,
+    start: Start,
+) -> Result<Start, OutOfMemory>
+    ensures pieces { OnOk result (entries_of pieces.new.items
+        ≡ entries_of pieces.old.items ++ map (λ w. w.parts.piece) workers.entry.items) }
+    ensures unclosed { OnOk result (unclosed.new.items
+        ≡ unclosed.old.items ++ flat_map (λ w. unclosed_by w.parts) workers.entry.items) }
+    ensures best { IfOk result (λ best. best ≡ best_of start (parts_of workers.entry.items)) }
+{
+    let mut best = start;
+    for worker in workers {
+        let WorkerEnd {
+            piece,
+            held,
+            mut waiting,
+            best: found,
+        } = worker.finish();
+        pieces.push(piece)?;
+        if let Some(path) = held {
+            unclosed.push(path)?;
+        }
+        unclosed.append(&mut waiting)?;
+        best = better_of(best, found);
+    }
+    Ok(best)
+}
+
+// Of two plans the one that loses less.
+fn better_of(start: Start, found: Option<Start>) -> Start
+    ensures { result ≡ better_of start found }
+{
+    match found {
+        Some(found) if found.loss < start.loss => found,
+        _ => start,
+    }
+}

@@ -1,0 +1,100 @@
+//! The run behind a feasible answer is handed out, whoever closed its paths, and else none is.
+
+use mill_io::{MemSink, MemSource};
+use mill_model::OutOfMemory;
+use refute_log::Run;
+use slab_top::run_plain;
+use std::alloc::Global;
+use std::test::Fail;
+
+// Three orders of three colours: four records refute each lesser loss than 4.
+const THREE_ORDERS: &str = "1 4\n3\n3\n1 1\n1 2\n2 3\n";
+
+// The status for words and an input; what was kept before is let go.
+fn status_of(
+    alloc: Global,
+    words: &str,
+    input: &str,
+    kept: &mut Option<Run>,
+) -> Result<u8, OutOfMemory> {
+    let mut list = Vec::new(alloc);
+    for word in words.split(' ') {
+        list.push(String::from_str(alloc, word)?)?;
+    }
+    let mut source = MemSource::new(alloc, input.as_bytes(), 4096, &[])?;
+    let mut sink = MemSink::new(alloc, 4096, &[])?;
+    Ok(run_plain(alloc, &list, &mut source, &mut sink, kept))
+}
+
+// How many records a run has.
+fn count(run: &Run) -> usize {
+    let mut count = 0usize;
+    for piece in &run.pieces {
+        count = count.saturating_add(piece.entries().len());
+    }
+    count
+}
+
+// With one ticket the empty path is closed by the worker that the schedule names first, and by
+// worker 0 where it names none.
+#[test]
+fn the_schedule_says_who_closes(rt: HostRuntime) -> Result<(), Fail> {
+    let alloc = rt.alloc();
+    for (schedule, worker) in [("schedule 1 1 1 1", 1usize), ("schedule", 0)] {
+        let input = format!(in alloc; "{THREE_ORDERS}{schedule}\n")?;
+        let mut kept = None;
+        let status = status_of(alloc, "replay --workers 2 --nodes 1", &input, &mut kept)?;
+        assert_eq!(rt; (status, kept.is_some()), (4, true), "{schedule}");
+        if let Some(run) = &kept {
+            assert_eq!(rt; run.pieces.len(), 2, "{schedule}");
+            let records = match run.pieces.get(worker) {
+                Some(piece) => piece.entries().len(),
+                None => 0,
+            };
+            assert_eq!(rt; records, 1, "{schedule}");
+            assert_eq!(rt; count(run), 1, "{schedule}");
+        }
+    }
+    Ok(())
+}
+
+// A budget below four records is spent on as many, and some path is left.
+#[test]
+fn each_small_budget_is_spent(rt: HostRuntime) -> Result<(), Fail> {
+    let alloc = rt.alloc();
+    let input = format!(in alloc; "{THREE_ORDERS}schedule 0 2 1 1 2 0\n")?;
+    let mut kept = None;
+    for nodes in 0..9usize {
+        let words = format!(in alloc; "replay --workers 3 --nodes {nodes}")?;
+        let status = status_of(alloc, &words, &input, &mut kept)?;
+        assert_eq!(rt; status, if nodes < 4 { 4 } else { 0 }, "{nodes}");
+        assert_eq!(rt; kept.is_some(), nodes < 4, "{nodes}");
+        if let Some(run) = &kept {
+            assert_eq!(rt; count(run), nodes, "{nodes}");
+            assert!(rt; !run.unclosed.is_empty(), "{nodes}");
+            assert_eq!(rt; run.loss, 4, "{nodes}");
+        }
+    }
+    Ok(())
+}
+
+// Each row: words and an input that aren't answered by a feasible plan, and the status.
+#[test]
+fn other_statuses_keep_no_run(rt: HostRuntime) -> Result<(), Fail> {
+    let alloc = rt.alloc();
+    let rows = [
+        ("solve", THREE_ORDERS, 0),
+        ("prove", "1 4 1 1 5 1", 1),
+        ("melt", "", 2),
+        ("replay", THREE_ORDERS, 3),
+        ("check", "1 4 1 1 4 1\noptimal\nloss 1\nplan 1\nend\n", 8),
+    ];
+    for (words, input, status) in rows {
+        let mut kept = None;
+        let before = status_of(alloc, "prove --nodes 0", THREE_ORDERS, &mut kept)?;
+        assert_eq!(rt; (before, kept.is_some()), (4, true));
+        let found = status_of(alloc, words, input, &mut kept)?;
+        assert_eq!(rt; (found, kept.is_some()), (status, false), "{words}");
+    }
+    Ok(())
+}

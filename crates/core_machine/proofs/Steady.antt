@@ -281,7 +281,7 @@ module _ (ranked : RankedOrders) (charges : ChargeTable) (budget : ℕ) where
           (worker c i) c.shared (step ranked charges budget c i).1.1
           (step ranked charges budget c i).1.0 (step ranked charges budget c i).0
       event-keeps =
-          steps-keep (called budget i (any_busy c.workers)) ranked charges (length c.workers) i l
+          steps-keep (called budget i (any_busy c.workers)) ranked charges (length c.workers) i
           (worker c i) c.shared (step ranked charges budget c i).0 l (steady.safe i l)
           (step ranked charges budget c i).1.1 (step ranked charges budget c i).1.0 event-is-step
 

@@ -214,7 +214,7 @@ module _ (worker : WorkerParts) (is : IsWorker worker) where
   close-honest here turn became closes same = go turn closes.are closes.becomes
     where
       held : (path : List ℕ) × (worker.parts.held ≡ Some path)
-      held = held-in worker is ClosingNow here
+      held = held-in worker (record { among = is.among; safe = is.safe }) ClosingNow here
 
       done : (turn : Turn) →
           AreOf worker.ranked worker.charges worker.parts.known held.0 closes.key closes.plan →

@@ -1,11 +1,14 @@
 -- What a search prints has one right answer from the other half of the program, between two jobs
 -- and so between two runs.
 use Rattle.std.specs.Prelude.{Some}
-use Rattle.std.proofs.Common.{◌≡◌, ℕ, ◌≤◌, List, length, refl, sym, ap, ◌∙◌, subst, inl, inr}
+use Rattle.std.proofs.Common.{◌≡◌, ℕ, ◌≤◌, List, [], length, refl, sym, ap, ◌∙◌, subst, inl}
+use Rattle.std.proofs.Common.{inr}
 use Rattle.mill_model.specs.Instance.{Problem}
 use Rattle.mill_model.specs.declared.limits.Limits.{Limits}
+use Rattle.line_text.specs.Lines.{text_lines}
 use Rattle.answer_text.specs.declared.answer.Answer.{Answer}
 use Rattle.answer_text.specs.declared.answer.Answer.TheVariants.{Optimal, Feasible, Infeasible}
+use Rattle.answer_text.specs.Text.{answer_text, IsAnswerText}
 use Rattle.job_words.specs.declared.command.Command.{Command}
 use Rattle.job_words.specs.declared.command.Command.TheVariants.{Solve, Prove, Check, Verify}
 use Rattle.job_words.specs.declared.job.Job.{Job}
@@ -13,7 +16,8 @@ use Rattle.job_words.specs.Words.{AskFor, limit_of}
 use Rattle.job_words.proofs.Grammar.{asked-only}
 use Rattle.reply_text.specs.declared.outcome.Outcome.{Outcome}
 use Rattle.reply_text.specs.declared.outcome.Outcome.TheVariants.{Solved}
-use Rattle.solve_answer.specs.Solved.{IsTold, IsSolved, IsProved}
+use Rattle.reply_text.specs.declared.solution.Solution.{Solution}
+use Rattle.solve_answer.specs.Solved.{IsSolved, IsProved}
 use Rattle.slab_top.specs.Input.{whole_input, instance_alone, instance_with_answer}
 use Rattle.slab_top.specs.Reply.{Replies, Tells}
 use Rattle.slab_top.specs.Served.{Serves, IsAnswer, IsRight, Output, Answered}
@@ -29,32 +33,32 @@ use Rattle.slab_top.proofs.ReadBehind.{read-behind, checks-told, verifies-proved
 
 -- ---- the answer of the first job
 
-solved-same : (a b : Answer) → Solved a ≡ Solved b → a ≡ b
+solved-same : (a b : Solution) → Solved a ≡ Solved b → a ≡ b
 solved-same a b same = cc
 
 -- an input that is answered was served
-served-answer : (job : Job) (input : List ℕ) (answer : Answer) →
-    IsAnswer job input (Solved answer) → Serves job.command job input (Solved answer)
-served-answer job input answer (inl refused) = (let other = refused.1 in absurd (cc))
-served-answer job input answer (inr served) =
-    subst (λ bytes. Serves job.command job bytes (Solved answer)) served.1.0 served.2
+served-answer : (job : Job) (input : List ℕ) (solution : Solution) →
+    IsAnswer job input (Solved solution) → Serves job.command job input (Solved solution)
+served-answer job input solution (inl refused) = (let other = refused.1 in absurd (cc))
+served-answer job input solution (inr served) =
+    subst (λ bytes. Serves job.command job bytes (Solved solution)) served.1.0 served.2
 
 -- a search read an instance that stands alone, and this is right for it
-record HasSearched (Is : Limits → Problem → Answer → Type 0) (job : Job) (input : List ℕ)
-    (answer : Answer) : Type 0 where
+record HasSearched (Is : Limits → Problem → Solution → Type 0) (job : Job) (input : List ℕ)
+    (solution : Solution) : Type 0 where
   problem : Problem
   alone : (instance_alone job.p input).Reads problem
-  right : Is job.limits problem answer
+  right : Is job.limits problem solution
 
-searched : (Is : Limits → Problem → Answer → Type 0) (job : Job) (input : List ℕ)
-    (answer : Answer) →
+searched : (Is : Limits → Problem → Solution → Type 0) (job : Job) (input : List ℕ)
+    (solution : Solution) →
     Replies (instance_alone job.p input) (λ problem. Tells Solved (Is job.limits problem))
-    (Solved answer) → HasSearched Is job input answer
-searched Is job input answer (inl refused) = (let other = refused.1 in absurd (cc))
-searched Is job input answer (inr said) = record {
+    (Solved solution) → HasSearched Is job input solution
+searched Is job input solution (inl refused) = (let other = refused.1 in absurd (cc))
+searched Is job input solution (inr said) = record {
   problem = said.0;
   alone = said.1;
-  right = subst (Is job.limits said.0) (sym (solved-same answer said.2.0 said.2.1)) said.2.2;
+  right = subst (Is job.limits said.0) (sym (solved-same solution said.2.0 said.2.1)) said.2.2;
 }
 
 -- ---- the answer of the second job
@@ -85,24 +89,28 @@ only-answer job bytes outcome itself right other = (
 
 -- ---- both jobs
 
--- What a search answers, of which some fact holds, by which it is told.
-module _ (Is : Limits → Problem → Answer → Type 0)
-    (told : (limits : Limits) (problem : Problem) (answer : Answer) → Is limits problem answer →
-    IsTold limits problem answer) (judge : Command) (outcome_for : Answer → Outcome)
+-- What a search answers, of which some fact holds, by which it reads back.
+module _ (Is : Limits → Problem → Solution → Type 0)
+    (reads_back : (limits : Limits) (problem : Problem) (solution : Solution) →
+    Is limits problem solution → IsAnswerText (length problem.orders) solution.answer
+    (text_lines (answer_text solution.answer))) (judge : Command)
+    (outcome_for : Answer → Outcome)
     (judges : (limits : Limits) (problem : Problem) (job : Job) (bytes : List ℕ)
-    (answer : Answer) → (instance_with_answer job.p bytes).Reads (problem, answer) →
-    Is limits problem answer → Serves judge job bytes (outcome_for answer))
+    (solution : Solution) → (instance_with_answer job.p bytes).Reads (problem, solution.answer) →
+    Is limits problem solution → Serves judge job bytes (outcome_for solution.answer))
     (itself : (answer : Answer) → AgreesWithNoOther (outcome_for answer)) where
   -- behind any text of the instance it has this one answer,
   pub judged-behind : (job : Job) (text : List ℕ) (limits : Limits) (problem : Problem)
-      (answer : Answer) → job.command ≡ judge → (instance_alone job.p text).Reads problem →
-      Is limits problem answer → length (with_printed text answer) ≤ limit_of job.command →
-      IsOnlyAnswer job (with_printed text answer) (outcome_for answer)
-  judged-behind job text limits problem answer judge_is alone right short =
+      (solution : Solution) → job.command ≡ judge → (instance_alone job.p text).Reads problem →
+      Is limits problem solution →
+      length (with_printed text solution.answer) ≤ limit_of job.command →
+      IsOnlyAnswer job (with_printed text solution.answer) (outcome_for solution.answer)
+  judged-behind job text limits problem solution judge_is alone right short =
+      let answer = solution.answer in
       let bytes = with_printed text answer in
       let reads = read-behind job.p text problem answer alone
-      (told limits problem answer right).reads_back in
-      let serves = judges limits problem job bytes answer reads right in
+      (reads_back limits problem solution right) in
+      let serves = judges limits problem job bytes solution reads right in
       only-answer job bytes (outcome_for answer) (itself answer) (inr (
         bytes,
         (refl, short),
@@ -110,34 +118,38 @@ module _ (Is : Limits → Problem → Answer → Type 0)
       ))
 
   -- and so behind the input of the search.
-  answered-behind : (search : Command) → ((job : Job) (input : List ℕ) (answer : Answer) →
-      Serves search job input (Solved answer) → HasSearched Is job input answer) →
+  answered-behind : (search : Command) → ((job : Job) (input : List ℕ) (solution : Solution) →
+      Serves search job input (Solved solution) → HasSearched Is job input solution) →
       IsAnsweredBehind search judge outcome_for
-  answered-behind search searches first second input answer search_is judge_is given =
-      let found = searches first input answer (subst (λ command. Serves command first input
-      (Solved answer)) search_is (served-answer first input answer given.answered)) in
-      judged-behind second input first.limits found.problem answer judge_is
+  answered-behind search searches first second input solution search_is judge_is given =
+      let found = searches first input solution (subst (λ command. Serves command first input
+      (Solved solution)) search_is (served-answer first input solution given.answered)) in
+      judged-behind second input first.limits found.problem solution judge_is
       (subst (λ p. (instance_alone p input).Reads found.problem) (sym given.colours) found.alone)
       found.right given.short
 
 pub verify-behind-prove : IsAnsweredBehind Prove Verify verified_as
 verify-behind-prove =
-    answered-behind IsProved (λ limits problem answer is. is.told) Verify verified_as
-    verifies-proved verified-itself Prove (searched IsProved)
+    answered-behind (λ limits. IsProved limits [])
+    (λ limits problem solution is. is.told.reads_back) Verify verified_as
+    (λ limits problem job bytes solution reads is.
+    verifies-proved limits problem [] job bytes solution.answer solution.run reads is)
+    verified-itself Prove (searched (λ limits. IsProved limits []))
 
 pub check-behind-prove : IsAnsweredBehind Prove Check checked_as
 check-behind-prove =
-    answered-behind IsProved (λ limits problem answer is. is.told) Check checked_as
-    (λ limits problem job bytes answer reads is.
-    checks-told limits problem job bytes answer reads is.told) checked-itself Prove
-    (searched IsProved)
+    answered-behind (λ limits. IsProved limits [])
+    (λ limits problem solution is. is.told.reads_back) Check checked_as
+    (λ limits problem job bytes solution reads is.
+    checks-told limits problem job bytes solution.answer reads is.told.solution) checked-itself
+    Prove (searched (λ limits. IsProved limits []))
 
 pub check-behind-solve : IsAnsweredBehind Solve Check checked_as
 check-behind-solve =
-    answered-behind IsSolved (λ limits problem answer is. is.told) Check checked_as
-    (λ limits problem job bytes answer reads is.
-    checks-told limits problem job bytes answer reads is.told) checked-itself Solve
-    (searched IsSolved)
+    answered-behind IsSolved (λ limits problem solution is. is.told.reads_back) Check checked_as
+    (λ limits problem job bytes solution reads is.
+    checks-told limits problem job bytes solution.answer reads is.told.solution) checked-itself
+    Solve (searched IsSolved)
 
 -- ---- two runs
 
@@ -171,11 +183,11 @@ only-right words job bytes outcome asked only output = (
 -- a law between jobs is one between runs
 pub right-behind : (search judge : Command) (outcome_for : Answer → Outcome) →
     IsAnsweredBehind search judge outcome_for → IsRightBehind search judge outcome_for
-right-behind search judge outcome_for law first second p input answer one two right short =
-    let bytes = with_printed input answer in
-    only-right second two.job bytes (outcome_for answer) two.asked
-    (law one.job two.job input answer one.command_is two.command_is (record {
-      answered = answer-for first one.job input (Solved answer) one.asked right;
+right-behind search judge outcome_for law first second p input solution one two right short =
+    let bytes = with_printed input solution.answer in
+    only-right second two.job bytes (outcome_for solution.answer) two.asked
+    (law one.job two.job input solution one.command_is two.command_is (record {
+      answered = answer-for first one.job input (Solved solution) one.asked right;
       colours = two.colours ∙ sym one.colours;
       short = subst (λ command. length bytes ≤ limit_of command) (sym two.command_is) short;
     }))

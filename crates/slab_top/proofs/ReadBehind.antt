@@ -1,10 +1,11 @@
 -- What is printed of an answer is read behind its instance, and judged as the answer that it is.
-use Rattle.std.specs.Prelude.{Some, None}
+use Rattle.std.specs.Prelude.{Option, Some, None}
 use Rattle.std.proofs.Common.{◌≡◌, ℕ, List, ◌∷◌, ◌++◌, length, drop, refl, sym, ap, ◌∙◌, subst}
 use Rattle.std.proofs.Common.{inl, inr}
 use Rattle.mill_model.specs.Instance.{Problem}
 use Rattle.mill_model.specs.declared.limits.Limits.{Limits}
 use Rattle.line_text.specs.Lines.{text_lines}
+use Rattle.refute_log.specs.declared.piece.Run.{Run}
 use Rattle.answer_text.specs.declared.answer.Answer.{Answer}
 use Rattle.answer_text.specs.declared.answer.Answer.TheVariants.{Optimal, Feasible, Infeasible}
 use Rattle.answer_text.specs.Text.{answer_text, IsAnswerText}
@@ -12,7 +13,7 @@ use Rattle.job_words.specs.declared.job.Job.{Job}
 use Rattle.reply_text.specs.declared.judgement.Judgement.TheVariants.{Legal, Verified, Confirmed}
 use Rattle.reply_text.specs.declared.outcome.Outcome.TheVariants.{Judged}
 use Rattle.reply_text.specs.declared.refusal.Refusal.TheVariants.{AnswerKind}
-use Rattle.solve_answer.specs.Solved.{IsTold, IsProved}
+use Rattle.solve_answer.specs.Solved.{IsSolution, IsProved}
 use Rattle.judge_answer.specs.Check.{IsSaidOf}
 use Rattle.judge_answer.specs.Verify.{IsVerified}
 use Rattle.slab_top.specs.Input.{after_white, instance_alone, instance_with_answer, lines_behind}
@@ -60,27 +61,29 @@ read-behind p input problem answer alone back =
 
 module _ (limits : Limits) (problem : Problem) where
   -- the plan of an answer is legal and loses what is told, and its order is the first heavy one
-  said-of-told : (answer : Answer) → IsTold limits problem answer →
+  said-of-told : (answer : Answer) → IsSolution limits problem answer →
       Tells Judged (IsSaidOf problem answer) (checked_as answer)
-  said-of-told (Optimal loss plan log) told =
-      (Legal loss, refl, (told.solution.1.found.found, refl))
-  said-of-told (Feasible loss plan spent) told =
-      (Legal loss, refl, (told.solution.1.found.found, refl))
-  said-of-told (Infeasible order) told = (Confirmed order, refl, (told.solution, refl))
+  said-of-told (Optimal loss plan log) right =
+      (Legal loss, refl, (right.1.found.found, refl))
+  said-of-told (Feasible loss plan spent) right =
+      (Legal loss, refl, (right.1.feasible.found.found, refl))
+  said-of-told (Infeasible order) right = (Confirmed order, refl, (right, refl))
 
   -- so `check` accepts what is read
   pub checks-told : (job : Job) (bytes : List ℕ) (answer : Answer) →
       (instance_with_answer job.p bytes).Reads (problem, answer) →
-      IsTold limits problem answer → Checks job bytes (checked_as answer)
-  checks-told job bytes answer reads told =
-      inr ((problem, answer), reads, said-of-told answer told)
+      IsSolution limits problem answer → Checks job bytes (checked_as answer)
+  checks-told job bytes answer reads right =
+      inr ((problem, answer), reads, said-of-told answer right)
 
   -- of an optimal plan the log refutes its loss, and a feasible one has no log
-  pub verifies-proved : (job : Job) (bytes : List ℕ) (answer : Answer) →
-      (instance_with_answer job.p bytes).Reads (problem, answer) →
-      IsProved limits problem answer → Verifies job bytes (verified_as answer)
-  verifies-proved job bytes (Optimal loss plan None) reads proved = absurd proved.log
-  verifies-proved job bytes (Optimal loss plan (Some log)) reads proved =
+  pub verifies-proved : (schedule : List ℕ) (job : Job) (bytes : List ℕ) (answer : Answer)
+      (run : Option Run) → (instance_with_answer job.p bytes).Reads (problem, answer) →
+      IsProved limits schedule problem (record { answer = answer; run = run }) →
+      Verifies job bytes (verified_as answer)
+  verifies-proved schedule job bytes (Optimal loss plan None) run reads proved =
+      absurd proved.log
+  verifies-proved schedule job bytes (Optimal loss plan (Some log)) run reads proved =
       let answer = Optimal loss plan (Some log) in
       let best = proved.told.solution.1 in
       let verified : IsVerified problem loss plan log.entries loss = record {
@@ -94,9 +97,9 @@ module _ (limits : Limits) (problem : Problem) where
         ((problem, answer), reads, (refl, λ nothing. nothing)),
         (Verified loss, refl, verified),
       )
-  verifies-proved job bytes (Feasible loss plan spent) reads proved =
+  verifies-proved schedule job bytes (Feasible loss plan spent) run reads proved =
       inl (AnswerKind, refl, inr ((problem, Feasible loss plan spent), reads, (refl, tt)))
-  verifies-proved job bytes (Infeasible order) reads proved =
+  verifies-proved schedule job bytes (Infeasible order) run reads proved =
       inr (
         (problem, Infeasible order),
         ((problem, Infeasible order), reads, (refl, λ nothing. nothing)),

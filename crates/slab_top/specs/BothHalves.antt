@@ -3,6 +3,7 @@
 use Rattle.std.specs.Prelude.{◌≡◌, ◌↔◌, ℕ, ◌≤◌, List, ◌∷◌, ◌++◌, length, Some}
 use Rattle.answer_text.specs.declared.answer.Answer.{Answer}
 use Rattle.answer_text.specs.declared.answer.Answer.TheVariants.{Optimal, Feasible, Infeasible}
+use Rattle.answer_text.specs.Text.{answer_text}
 use Rattle.job_words.specs.declared.command.Command.{Command}
 use Rattle.job_words.specs.declared.job.Job.{Job}
 use Rattle.job_words.specs.Words.{AskFor, limit_of}
@@ -10,12 +11,12 @@ use Rattle.reply_text.specs.declared.judgement.Judgement.TheVariants.{Legal, Ver
 use Rattle.reply_text.specs.declared.outcome.Outcome.{Outcome}
 use Rattle.reply_text.specs.declared.outcome.Outcome.TheVariants.{Refused, Solved, Judged}
 use Rattle.reply_text.specs.declared.refusal.Refusal.TheVariants.{AnswerKind}
-use Rattle.reply_text.specs.Outcome.{text_of}
+use Rattle.reply_text.specs.declared.solution.Solution.{Solution}
 use Rattle.slab_top.specs.Served.{IsAnswer, IsRight, Output, Answered}
 
 -- the bytes that were read, one line feed, and what was printed
 abbrev pub with_printed : List ℕ → Answer → List ℕ
-with_printed input answer = input ++ 10 ∷ text_of (Solved answer)
+with_printed input answer = input ++ 10 ∷ answer_text answer
 
 -- what `verify` answers to what `prove` printed; a feasible plan has no log
 abbrev pub verified_as : Answer → Outcome
@@ -37,17 +38,17 @@ IsOnlyAnswer job bytes outcome = (other : Outcome) → IsAnswer job bytes other 
 
 -- This answer to an input is right for the first job. It is given on to the second job, which has
 -- the same colours and takes that many bytes.
-pub record IsGivenOn (first second : Job) (input : List ℕ) (answer : Answer) : Type 0 where
-  pub answered : IsAnswer first input (Solved answer)
+pub record IsGivenOn (first second : Job) (input : List ℕ) (solution : Solution) : Type 0 where
+  pub answered : IsAnswer first input (Solved solution)
   pub colours : second.p ≡ first.p
-  pub short : length (with_printed input answer) ≤ limit_of second.command
+  pub short : length (with_printed input solution.answer) ≤ limit_of second.command
 
 -- each answer of a job of one command, given on to a job of another one, has this one right outcome
 abbrev pub IsAnsweredBehind : Command → Command → (Answer → Outcome) → Type 0
 IsAnsweredBehind search judge outcome_for =
-    (first second : Job) (input : List ℕ) (answer : Answer) → first.command ≡ search →
-    second.command ≡ judge → IsGivenOn first second input answer →
-    IsOnlyAnswer second (with_printed input answer) (outcome_for answer)
+    (first second : Job) (input : List ℕ) (solution : Solution) → first.command ≡ search →
+    second.command ≡ judge → IsGivenOn first second input solution →
+    IsOnlyAnswer second (with_printed input solution.answer) (outcome_for solution.answer)
 
 -- ---- two runs
 
@@ -67,8 +68,8 @@ IsOnlyRight words bytes outcome =
 -- one may print has, given on to the second, this one right output.
 abbrev pub IsRightBehind : Command → Command → (Answer → Outcome) → Type 0
 IsRightBehind search judge outcome_for =
-    (first second : List (List ℕ)) (p : ℕ) (input : List ℕ) (answer : Answer) →
+    (first second : List (List ℕ)) (p : ℕ) (input : List ℕ) (solution : Solution) →
     AskForCommand first search p → AskForCommand second judge p →
-    IsRight first (Some input) (Answered (Solved answer)) →
-    length (with_printed input answer) ≤ limit_of judge →
-    IsOnlyRight second (with_printed input answer) (outcome_for answer)
+    IsRight first (Some input) (Answered (Solved solution)) →
+    length (with_printed input solution.answer) ≤ limit_of judge →
+    IsOnlyRight second (with_printed input solution.answer) (outcome_for solution.answer)

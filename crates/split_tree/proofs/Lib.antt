@@ -9,3 +9,4 @@ pub mod Live
 pub mod Coming
 pub mod LiveGroups
 pub mod SameKeys
+pub mod LightOrders

@@ -1,7 +1,7 @@
 -- A new crew, the paths that it is given, and what is taken from it in the end.
 use Rattle.std.proofs.Common.{ℕ, zero, suc, ◌+◌, ◌<◌, ◌≡◌, false, List, [], ◌∷◌, ◌++◌, length, map}
-use Rattle.std.proofs.Common.{flat_map, replicate, set, refl, sym, ap, ◌∙◌, subst, arith, append_assoc}
-use Rattle.std.proofs.Common.{length-append, append-nil}
+use Rattle.std.proofs.Common.{flat_map, replicate, set, refl, sym, ap, ◌∙◌, subst, arith}
+use Rattle.std.proofs.Common.{append_assoc, length-append, append-nil}
 use Rattle.std.proofs.lemmas.List.{map-append}
 use Rattle.list_laws.specs.Sets.{below}
 use Rattle.mill_model.specs.Charges.{ChargeTable}

@@ -1,7 +1,8 @@
--- Each record of a worker has the lengths and numbers that a record of a log may have: a verdict has
--- the lengths, and the prices that it goes by are within the limits of a price.
-use Rattle.std.proofs.Common.{ℕ, ◌<◌, ◌≤◌, ◌≡◌, Bool, true, false, cond, List, [], ◌∷◌, ◌++◌, length}
-use Rattle.std.proofs.Common.{map, Option, Some, None, refl, sym, subst, ℤ, All, inl, inr, arith}
+-- Each record of a worker has the lengths and numbers that a record of a log may have: a verdict
+-- has the lengths, and the prices that it goes by are within the limits of a price.
+use Rattle.std.proofs.Common.{ℕ, ◌<◌, ◌≤◌, ◌≡◌, Bool, true, false, cond, List, [], ◌∷◌, ◌++◌}
+use Rattle.std.proofs.Common.{length, map, Option, Some, None, refl, sym, subst, ℤ, All, inl}
+use Rattle.std.proofs.Common.{inr, arith}
 use Rattle.std.proofs.lemmas.Bool.{cases_lt}
 use Rattle.std.proofs.lemmas.List.{get_or_past}
 use Rattle.std.specs.List.{AllByRecursion}
@@ -95,8 +96,8 @@ module _ (ranked : RankedOrders) (charges : ChargeTable) (mill : FitsMill ranked
           inside : (ps qs : List ℤ) → ByPrices ps ≡ ByPrices qs → ps ≡ qs
           inside ps qs e = cc
 
-      of-open : (o : Option (List ℕ)) → verdict_open (task_at ranked charges) key path o ≡ ByPrices prices →
-          All IsPrice prices
+      of-open : (o : Option (List ℕ)) →
+          verdict_open (task_at ranked charges) key path o ≡ ByPrices prices → All IsPrice prices
       of-open None e = absurd (cc)
       of-open (Some other) e = absurd (cc)
 

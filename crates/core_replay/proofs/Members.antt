@@ -39,7 +39,8 @@ module _ (ranked : RankedOrders) (charges : ChargeTable) (workers : ℕ) where
   member-at n [] i w a l = absurd (omega arith)
   member-at n (v ∷ ws) zero w a l = let e : n + 0 ≡ n = omega arith in rw e a.0
   member-at n (v ∷ ws) (suc i) w a l =
-      let e : n + suc i ≡ suc n + i = omega arith in rw e (member-at (suc n) ws i w a.1 (omega arith))
+      let e : n + suc i ≡ suc n + i = omega arith in
+      rw e (member-at (suc n) ws i w a.1 (omega arith))
 
   pub members-set : (n : ℕ) (ws : List WorkerParts) (i : ℕ) (w : WorkerParts) →
       AreMembers ranked charges workers n ws → IsMember ranked charges workers (n + i) w →

@@ -1,5 +1,5 @@
 -- A turn of a crew is an event of its machine.
-use Rattle.std.proofs.Common.{ℕ, ◌≡◌, ◌<◌, ◌+◌, Bool, List, length, set, get_or, refl, sym, ap, ◌∙◌}
+use Rattle.std.proofs.Common.{ℕ, ◌≡◌, ◌<◌, ◌+◌, Bool, List, length, set, get_or, sym, ap, ◌∙◌}
 use Rattle.std.proofs.Common.{subst, arith, length-set}
 use Rattle.std.specs.List.{list_any}
 use Rattle.mill_model.specs.Charges.{ChargeTable}

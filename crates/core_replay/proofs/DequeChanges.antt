@@ -1,5 +1,5 @@
 -- A change of one deque, as a change of one list.
-use Rattle.std.proofs.Common.{◌≡◌, ℕ, zero, suc, ◌<◌, List, [], ◌∷◌, ◌++◌, length, map, set, get_or}
+use Rattle.std.proofs.Common.{◌≡◌, ℕ, zero, suc, ◌<◌, List, [], ◌∷◌, ◌++◌, length, set, get_or}
 use Rattle.std.proofs.Common.{Option, Some, None, MatchOption, option_to_list, replicate, refl, sym}
 use Rattle.std.proofs.Common.{ap, ◌∙◌, subst, append-nil, arith, ◌+◌}
 use Rattle.std.specs.List.{AllByRecursion}
@@ -86,17 +86,19 @@ module _ (ranked : RankedOrders) (ds : List PathDeque) (i k : ℕ) (same : k ≡
       MatchOption r (length q.items ≡ 0) (λ _. Unit {0}) →
       (r ≡ last_of (list_at before i)) × (after ≡ with_list before i (front (list_at before i)))
   popped-back r e n =
-      let t = took-back q.items q'.items r e n in
-      (t.0 ∙ sym (ap last_of its-list),
-      changed (front (list_at before i)) (t.1 ∙ sym (ap front its-list)))
+      let t = took-back q.items q'.items r e n in (
+        t.0 ∙ sym (ap last_of its-list),
+        changed (front (list_at before i)) (t.1 ∙ sym (ap front its-list)),
+      )
 
   pub popped-front : (r : Option (List ℕ)) → q.items ≡ option_to_list r ++ q'.items →
       MatchOption r (length q.items ≡ 0) (λ _. Unit {0}) →
       (r ≡ first_of (list_at before i)) × (after ≡ with_list before i (tail_of (list_at before i)))
   popped-front r e n =
-      let t = took-front q.items q'.items r e n in
-      (t.0 ∙ sym (ap first_of its-list),
-      changed (tail_of (list_at before i)) (t.1 ∙ sym (ap tail_of its-list)))
+      let t = took-front q.items q'.items r e n in (
+        t.0 ∙ sym (ap first_of its-list),
+        changed (tail_of (list_at before i)) (t.1 ∙ sym (ap tail_of its-list)),
+      )
 
   pub pushed-back : (x : List ℕ) → q'.items ≡ q.items ++ x ∷ [] →
       after ≡ with_list before i (list_at before i ++ x ∷ [])

@@ -1,13 +1,12 @@
 -- A step of a worker over the plain hand is an event of the machine. The hand answers as the
 -- machine does, as long as the number of tickets is below the greatest of 64 bits.
-use Rattle.std.proofs.Common.{ℕ, zero, suc, ◌+◌, ◌-◌, ◌^◌, ◌≡◌, ◌<◌, ◌⊎◌, inl, inr, min, Bool, List}
-use Rattle.std.proofs.Common.{[], ◌∷◌, length, map, set, get_or, Option, Some, None, refl, sym, ap}
+use Rattle.std.proofs.Common.{ℕ, ◌+◌, ◌-◌, ◌^◌, ◌≡◌, ◌<◌, inl, inr, min, List}
+use Rattle.std.proofs.Common.{length, set, get_or, Option, Some, None, refl, sym, ap}
 use Rattle.std.proofs.Common.{◌∙◌, subst, arith}
 use Rattle.std.specs.List.{AllByRecursion}
 use Rattle.mill_model.specs.Charges.{ChargeTable}
 use Rattle.order_symmetry.specs.Ranked.{RankedOrders, IsRanked}
 use Rattle.search_step.specs.Accounts.{DidMaybe}
-use Rattle.search_step.specs.Moves.{Moves}
 use Rattle.search_step.specs.Parts.{Parts}
 use Rattle.search_step.specs.Serving.{IsPathOf}
 use Rattle.search_step.specs.Steps.{Steps, IsSafe}
@@ -16,12 +15,11 @@ use Rattle.search_step.specs.declared.event.Event.{Event}
 use Rattle.search_step.specs.declared.event.Event.TheVariants.{Took, Stole, Pushed, Refused}
 use Rattle.search_step.specs.declared.event.Event.TheVariants.{Drew as DrewEvent, Looked, Published}
 use Rattle.search_step.specs.declared.event.Event.TheVariants.{Stopping, Stood}
-use Rattle.search_step.specs.declared.parts.Phase.{Phase}
 use Rattle.search_step.specs.declared.parts.Turn.{Turn}
 use Rattle.search_step.specs.declared.parts.Turn.TheVariants.{Moved, Drew, Idle, Stopped}
 use Rattle.search_step.specs.declared.parts.Turn.TheVariants.{OutOfMemory}
 use Rattle.core_machine.specs.Calls.{called}
-use Rattle.core_machine.specs.Core.{Core, Shared, any_busy, deque, event, no_worker, with_draw}
+use Rattle.core_machine.specs.Core.{Core, Shared, any_busy, deque, event, with_draw}
 use Rattle.core_machine.specs.Core.{step_in, with_worker, worker}
 use Rattle.core_machine.proofs.Steps.{step-made, steps-seen}
 use Rattle.core_replay.specs.Crew.{Goes, parts_of}

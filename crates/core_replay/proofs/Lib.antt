@@ -5,3 +5,5 @@ mod Fits
 mod DequeChanges
 mod CrewTurns
 mod Loops
+mod CrewEnds
+mod Resuming

@@ -1,6 +1,6 @@
 -- What the loops of a crew keep: after the events of a schedule so far, or of a round so far, the
 -- machine stands where its definition says, and more turns may be made.
-use Rattle.std.proofs.Common.{ℕ, zero, suc, ◌+◌, ◌<◌, ◌≤◌, ◌≡◌, ◌⊎◌, inl, inr, Bool, true, false, ◌&&◌}
+use Rattle.std.proofs.Common.{ℕ, zero, suc, ◌+◌, ◌<◌, ◌≡◌, ◌⊎◌, inl, inr, Bool, true, false, ◌&&◌}
 use Rattle.std.proofs.Common.{List, [], ◌∷◌, ◌++◌, length, take, get_or, refl, sym, ap, ◌∙◌, subst}
 use Rattle.std.proofs.Common.{arith}
 use Rattle.search_step.specs.declared.parts.Turn.{Turn}
@@ -78,23 +78,23 @@ module _ (b c : CrewState) (i : ℕ) (turn : Turn) (ready : IsReady b)
     (within : i < length b.core.workers) (on : GoesOn turn)
     (goes : Goes turn (event b.ranked b.charges b.budget b.core i) c.core) (same : SameRun b c)
   where
-  turned : (c.core ≡ (event b.ranked b.charges b.budget b.core i).0)
-      × (turn ≡ (event b.ranked b.charges b.budget b.core i).1)
-  turned = goes-so turn (event b.ranked b.charges b.budget b.core i) c.core on goes
+    turned : (c.core ≡ (event b.ranked b.charges b.budget b.core i).0)
+        × (turn ≡ (event b.ranked b.charges b.budget b.core i).1)
+    turned = goes-so turn (event b.ranked b.charges b.budget b.core i) c.core on goes
 
-  ready-after : IsReady c
-  ready-after =
-      same-ready b c (event b.ranked b.charges b.budget b.core i).0 same turned.0 (record {
-        ranks = ready.ranks;
-        nodes = ready.nodes;
-        steady =
-            steady-event b.ranked b.charges b.budget ready.ranks b.core i within ready.steady;
-      })
+    ready-after : IsReady c
+    ready-after =
+        same-ready b c (event b.ranked b.charges b.budget b.core i).0 same turned.0 (record {
+          ranks = ready.ranks;
+          nodes = ready.nodes;
+          steady =
+              steady-event b.ranked b.charges b.budget ready.ranks b.core i within ready.steady;
+        })
 
-  count-after : length c.core.workers ≡ length b.core.workers
-  count-after =
-      ap (λ (v : Core). length v.workers) turned.0
-      ∙ event-count b.ranked b.charges b.budget b.core i
+    count-after : length c.core.workers ≡ length b.core.workers
+    count-after =
+        ap (λ (v : Core). length v.workers) turned.0
+        ∙ event-count b.ranked b.charges b.budget b.core i
 
 -- after so many events of a schedule
 pub record Follows (a b : CrewState) (done : List ℕ) : Type 0 where
@@ -111,7 +111,9 @@ take-more : (xs : List ℕ) (k : ℕ) → k < length xs →
     take k xs ++ get_or xs k 0 ∷ [] ≡ take (k + 1) xs
 take-more [] k l = absurd (omega arith)
 take-more (x ∷ xs) zero l = refl
-take-more (x ∷ xs) (suc k) l = ap (λ t. x ∷ t) (take-more xs k (omega arith))
+take-more (x ∷ xs) (suc k) l =
+    let e : suc k + 1 ≡ suc (k + 1) = omega arith in
+    rw e (ap (λ t. x ∷ t) (take-more xs k (omega arith)))
 
 pub follows-more : (a b c : CrewState) (xs : List ℕ) (k : ℕ) (turn : Turn) → k < length xs →
     Follows a b (take k xs) → get_or xs k 0 < length b.core.workers → GoesOn turn →
@@ -153,12 +155,14 @@ rounded-more a b c stopped stopped' i turn r within on goes same e =
     let here : event a.ranked a.charges a.budget b.core i ≡ (c.core, turn) =
     sym (event-alike a b r.same b.core i) ∙ next in
     let step : (p : Core × Bool) → (b.core, stopped) ≡ p →
-    ◌≡◌ {A = Core × Bool} (c.core, stopped')
-    ((event a.ranked a.charges a.budget p.0 i).0,
-    p.1 && is_stopped (event a.ranked a.charges a.budget p.0 i).1) =
-    λ p q. subst (λ (p : Core × Bool). ◌≡◌ {A = Core × Bool} (c.core, stopped')
-    ((event a.ranked a.charges a.budget p.0 i).0,
-    p.1 && is_stopped (event a.ranked a.charges a.budget p.0 i).1)) q
+    ◌≡◌ {A = Core × Bool} (c.core, stopped') (
+      (event a.ranked a.charges a.budget p.0 i).0,
+      p.1 && is_stopped (event a.ranked a.charges a.budget p.0 i).1,
+    ) =
+    λ p q. subst (λ (p : Core × Bool). ◌≡◌ {A = Core × Bool} (c.core, stopped') (
+      (event a.ranked a.charges a.budget p.0 i).0,
+      p.1 && is_stopped (event a.ranked a.charges a.budget p.0 i).1,
+    )) q
     (subst (λ (r : Core × Turn). ◌≡◌ {A = Core × Bool} (c.core, stopped')
     (r.0, stopped && is_stopped r.1)) (sym here) (ap (λ (v : Bool). (c.core, v)) e)) in
     let more : i + 1 ≡ suc i = omega arith in

@@ -1,7 +1,7 @@
 -- Lists of workers that go by the same, with their numbers.
-use Rattle.std.proofs.Common.{ℕ, zero, suc, ◌+◌, ◌≡◌, ◌<◌, Bool, true, false, not, ◌&&◌, List, []}
-use Rattle.std.proofs.Common.{◌∷◌, ◌++◌, length, map, set, get_or, Option, Some, None, refl, sym, ap}
-use Rattle.std.proofs.Common.{◌∙◌, subst, arith, option_to_list}
+use Rattle.std.proofs.Common.{ℕ, zero, suc, ◌+◌, ◌≡◌, ◌<◌, true, false, List, []}
+use Rattle.std.proofs.Common.{◌∷◌, ◌++◌, length, set, get_or, Some, None, refl, sym, ap}
+use Rattle.std.proofs.Common.{subst, arith}
 use Rattle.std.specs.List.{list_any}
 use Rattle.mill_model.specs.Charges.{ChargeTable}
 use Rattle.order_symmetry.specs.Ranked.{RankedOrders}
@@ -13,7 +13,7 @@ use Rattle.search_step.specs.declared.parts.Phase.TheVariants.{Resting, Taking, 
 use Rattle.search_step.specs.declared.parts.Phase.TheVariants.{Halting, Ended, Bounding}
 use Rattle.search_step.specs.declared.parts.Phase.TheVariants.{Closing as ClosingNow, Publishing}
 use Rattle.search_step.specs.declared.parts.Phase.TheVariants.{Pushing}
-use Rattle.core_machine.specs.Core.{any_busy, is_busy, is_empty, no_worker}
+use Rattle.core_machine.specs.Core.{any_busy, is_busy, no_worker}
 use Rattle.core_replay.specs.Crew.{AreMembers, IsMember, has_path, parts_of}
 
 pub parts-length : (ws : List WorkerParts) → length (parts_of ws) ≡ length ws
@@ -39,7 +39,8 @@ module _ (ranked : RankedOrders) (charges : ChargeTable) (workers : ℕ) where
   member-at n [] i w a l = absurd (omega arith)
   member-at n (v ∷ ws) zero w a l = let e : n + 0 ≡ n = omega arith in rw e a.0
   member-at n (v ∷ ws) (suc i) w a l =
-      let e : n + suc i ≡ suc n + i = omega arith in rw e (member-at (suc n) ws i w a.1 (omega arith))
+      let e : n + suc i ≡ suc n + i = omega arith in
+      rw e (member-at (suc n) ws i w a.1 (omega arith))
 
   pub members-set : (n : ℕ) (ws : List WorkerParts) (i : ℕ) (w : WorkerParts) →
       AreMembers ranked charges workers n ws → IsMember ranked charges workers (n + i) w →

@@ -1,16 +1,16 @@
 -- Workers that may make turns still may after one, and after a round; each round in which not every
 -- worker stopped leaves less to do.
-use Rattle.std.proofs.Common.{ℕ, zero, suc, ◌+◌, ◌^◌, ◌<◌, ◌≤◌, ◌≡◌, Bool, true, false, cond, List}
-use Rattle.std.proofs.Common.{[], ◌∷◌, length, refl, sym, ap, ◌∙◌, subst, arith}
+use Rattle.std.proofs.Common.{ℕ, suc, ◌+◌, ◌^◌, ◌<◌, ◌≤◌, ◌≡◌, Bool, true, false, cond, List}
+use Rattle.std.proofs.Common.{[], ◌∷◌, length, sym, subst, arith}
 use Rattle.std.specs.List.{AllByRecursion}
 use Rattle.order_symmetry.specs.Ranked.{IsRanked}
 use Rattle.search_step.specs.Parts.{Parts}
 use Rattle.search_step.specs.Serving.{IsPathOf}
-use Rattle.core_machine.specs.Core.{Core, deque, event}
+use Rattle.core_machine.specs.Core.{Core, deque}
 use Rattle.core_machine.specs.Counts.{sum_of}
 use Rattle.core_machine.specs.Steady.{IsSteady, has_spent, spent_by}
 use Rattle.core_machine.proofs.Lists.{all-get-or}
-use Rattle.core_replay.specs.Crew.{CrewState, Goes, IsReady, SameRun}
+use Rattle.core_replay.specs.Crew.{CrewState, IsReady, SameRun}
 
 spent-at-most : (ws : List Parts) → sum_of spent_by ws ≤ length ws
 spent-at-most [] = omega arith
@@ -32,7 +32,7 @@ queued-at c ready j =
     all-get-or (AllByRecursion (IsPathOf c.ranked)) c.core.shared.deques j [] ready.steady.queued tt
 
 -- what is so of one crew is so of another that goes by the same
-same-ready : (b c : CrewState) (core : Core) → SameRun b c → c.core ≡ core →
+pub same-ready : (b c : CrewState) (core : Core) → SameRun b c → c.core ≡ core →
     IsReady (record b { core = core }) → IsReady c
 same-ready b c core same e ready = record {
   ranks = subst IsRanked (sym same.ranked) ready.ranks;

@@ -49,22 +49,29 @@ pub record IsCrew (ranked : RankedOrders) (charges : ChargeTable) (workers : ℕ
   pub long : length ws ≡ workers
   pub members : AreMembers ranked charges workers 0 ws
 
--- new workers, with no path yet
-abbrev pub new_crew : RankedOrders → ChargeTable → ℕ → ℕ → ℕ → ℕ → CrewState
-new_crew ranked charges nodes workers loss drawn = record {
+-- new workers, with some paths in deque 0
+abbrev pub crew_with : RankedOrders → ChargeTable → ℕ → ℕ → ℕ → ℕ → List (List ℕ) → CrewState
+crew_with ranked charges nodes workers loss drawn paths = record {
   ranked = ranked;
   charges = charges;
   budget = nodes;
-  core = first_state workers (length ranked.placed) loss drawn [];
+  core = first_state workers (length ranked.placed) loss drawn paths;
 }
 
 -- with one more path in deque 0
 abbrev pub with_given : CrewState → List ℕ → CrewState
 with_given c path =
-    record c { core = record {
-      shared = with_pushed c.core.shared 0 path;
-      workers = c.core.workers;
-    } }
+    record c {
+      core = record {
+        shared = with_pushed c.core.shared 0 path;
+        workers = c.core.workers;
+      };
+    }
+
+-- with more paths there
+abbrev pub with_all_given : CrewState → List (List ℕ) → CrewState
+with_all_given c [] = c
+with_all_given c (path ∷ paths) = with_all_given (with_given c path) paths
 
 -- the records of some pieces
 abbrev pub entries_of : List Pieced → List (List Entry)

@@ -1,5 +1,5 @@
 -- The plain hand, and what the calls on it do.
-use Rattle.std.specs.Prelude.{ℕ, ◌+◌, ◌-◌, ◌^◌, ◌≡◌, Bool, true, false, List, [], min, replicate}
+use Rattle.std.specs.Prelude.{ℕ, ◌+◌, ◌-◌, ◌^◌, ◌≡◌, Bool, true, false, [], min, replicate}
 use Rattle.order_symmetry.specs.Ranked.{RankedOrders}
 use Rattle.search_step.specs.Moves.{last_of}
 use Rattle.search_step.specs.Serving.{Serving, draw_at}

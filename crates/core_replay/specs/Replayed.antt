@@ -42,14 +42,13 @@ pub record IsResumable (ranked : RankedOrders) (charges : ChargeTable) (nodes : 
   pub plan : IsKept ranked charges (start_of run)
   pub count : length (joined (records_of run)) ≡ min run.drawn nodes
 
--- What one further worker makes of a run: the pieces are those given and at most one more, which
--- splits no path for which one stands that it split before; no fewer tickets are drawn; and for a
--- loss that is at least the given run's, thrift stays.
+-- What further workers make of a run: the pieces are those given and then theirs, which split no
+-- path for which one stands that they split before; no fewer tickets are drawn; and for a loss that
+-- is at least the given run's, thrift stays.
 pub record GoesOnFrom (ranked : RankedOrders) (charges : ChargeTable) (given run : Run)
     : Type 0 where
   pub more : List (List Entry)
   pub pieces : records_of run ≡ records_of given ++ more
-  pub few : length more ≤ 1
   pub anew : EachSplitsAnew ranked charges more
   pub drawn : given.drawn ≤ run.drawn
   pub thrifty :

@@ -1,13 +1,26 @@
 -- What further workers leave of a run that they went on from.
-use Rattle.std.specs.Prelude.{ℕ, ◌≡◌, List, ◌++◌, length}
-use Rattle.mill_model.specs.Charges.{ChargeTable}
-use Rattle.order_symmetry.specs.Ranked.{RankedOrders}
+use Rattle.std.specs.Prelude.{ℕ, ◌≡◌, ◌<◌, ◌≤◌, All, List, ◌++◌, length}
+use Rattle.std.specs.List.{AllByRecursion}
+use Rattle.mill_model.specs.Charges.{ChargeTable, Reaches}
+use Rattle.order_symmetry.specs.Ranked.{RankedOrders, orders_of}
 use Rattle.refute_log.specs.declared.piece.Run.{Run}
 use Rattle.search_step.specs.Promise.{records_of}
 use Rattle.core_machine.specs.Core.{Core, Rounds, after_schedule, first_state}
 use Rattle.core_machine.specs.Core.{pieces_of, unclosed_of}
 use Rattle.core_machine.specs.Kept.{best_of}
-use Rattle.core_replay.specs.Replayed.{start_of}
+use Rattle.core_replay.specs.Replayed.{IsResumable, start_of}
+
+-- what workers need that go on from a run
+pub record CanResume (ranked : RankedOrders) (charges : ChargeTable) (nodes workers : ℕ)
+    (schedule : List ℕ) (given : Run) : Type 0 where
+  pub light : All (λ order. order.weight ≤ ranked.mill.largest) (orders_of ranked)
+  pub reach : Reaches charges ranked.mill
+  pub some : 1 ≤ workers
+  pub few : workers ≤ 64
+  pub within : nodes ≤ 1000000000
+  pub drawn : given.drawn ≤ nodes
+  pub resumable : IsResumable ranked charges nodes given
+  pub numbers : AllByRecursion (λ (number : ℕ). number < workers) schedule
 
 -- With the unclosed paths of the given run in deque 0, its loss and its number of tickets, workers
 -- made the events of a schedule, then rounds to their end. Its pieces come first, then those of the
@@ -23,4 +36,5 @@ pub record IsResumed (ranked : RankedOrders) (charges : ChargeTable) (nodes work
   pub pieces : records_of run ≡ records_of given ++ pieces_of last
   pub unclosed : run.unclosed.items ≡ unclosed_of last
   pub best : start_of run ≡ best_of (start_of given) last.workers
+  pub loss : run.loss ≡ last.shared.least
   pub drawn : run.drawn ≡ last.shared.drawn

@@ -1,11 +1,14 @@
-ghost use Rattle.std.specs.Prelude.{◌≡◌, ◌≤◌, ◌++◌, All, IfOk, OnOk, map, flat_map};
+ghost use Rattle.std.specs.Prelude.{◌≡◌, ◌≤◌, ◌++◌, [], All, IfOk, OnOk, map, flat_map};
+ghost use Rattle.std.specs.Prelude.{option_to_list};
+ghost use Rattle.std.specs.List.{AllByRecursion};
 ghost use Rattle.mill_model.specs.Charges.{Reaches};
 ghost use Rattle.order_symmetry.specs.Ranked.{orders_of};
 ghost use Rattle.search_step.specs.Promise.{records_of};
 ghost use Rattle.search_step.specs.Serving.{IsPathOf};
 ghost use Rattle.core_machine.specs.Core.{pieces_of, unclosed_by, unclosed_of};
 ghost use Rattle.core_machine.specs.Kept.{best_of, better_of};
-ghost use Rattle.core_replay.specs.Crew.{entries_of, new_crew, parts_of, with_given};
+ghost use Rattle.core_replay.specs.Crew.{crew_with, entries_of, parts_of};
+ghost use Rattle.core_replay.specs.Crew.{with_all_given, with_given};
 ghost use Rattle.core_replay.specs.Replayed.{start_of};
 
 use crate::plain_hand::PlainHand;
@@ -54,8 +57,8 @@ impl<'a> Crew<'a> {
         requires reach { Reaches charges.now ranked.now.mill }
         requires some { 1 ≤ limits.now.workers }
         requires few { limits.now.workers ≤ 64 }
-        ensures { IfOk result (λ crew. crew ≡ new_crew ranked.now charges.now limits.now.nodes
-            limits.now.workers loss drawn) }
+        ensures { IfOk result (λ crew. crew ≡ crew_with ranked.now charges.now limits.now.nodes
+            limits.now.workers loss drawn []) }
     {
         let count = limits.workers;
         let hand = PlainHand::new(alloc, ranked, count, loss, limits.nodes, drawn)?;
@@ -70,10 +73,21 @@ impl<'a> Crew<'a> {
         })
     }
 
-    // Puts a path last in deque 0, before the first turn.
-    pub(crate) fn give(&mut self, path: Path) -> Result<(), OutOfMemory>
+    // Puts paths into deque 0, before the first turn.
+    pub(crate) fn give_all(&mut self, paths: Vec<Path>) -> Result<(), OutOfMemory>
+        requires { AllByRecursion (IsPathOf self.old.ranked) paths.items }
+        ensures { IfOk result (λ _. self.new ≡ with_all_given self.old paths.items) }
+    {
+        for path in paths {
+            self.give(path)?;
+        }
+        Ok(())
+    }
+
+    fn give(&mut self, path: Path) -> Result<(), OutOfMemory>
         requires { IsPathOf self.old.ranked path }
         ensures given { IfOk result (λ _. self.new ≡ with_given self.old path) }
+        ensures ranked { self.new.ranked ≡ self.old.ranked }
     {
         self.hand.serve(0, false);
         self.hand.push(path).map_err(|_| OutOfMemory)
@@ -132,13 +146,21 @@ fn end_all(
             best: found,
         } = worker.finish();
         pieces.push(piece)?;
-        if let Some(path) = held {
-            unclosed.push(path)?;
-        }
+        push_some(unclosed, held)?;
         unclosed.append(&mut waiting)?;
         best = better_of(best, found);
     }
     Ok(best)
+}
+
+// Appends a path, where there is one.
+fn push_some(paths: &mut Vec<Path>, path: Option<Path>) -> Result<(), OutOfMemory>
+    ensures { OnOk result (paths.new.items ≡ paths.old.items ++ option_to_list path) }
+{
+    if let Some(path) = path {
+        paths.push(path)?;
+    }
+    Ok(())
 }
 
 // Of two plans the one that loses less.

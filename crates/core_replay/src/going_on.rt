@@ -1,9 +1,7 @@
-ghost use Rattle.std.specs.Prelude.{◌≡◌, ◌<◌, ◌≤◌, All, IfOk};
-ghost use Rattle.std.specs.List.{AllByRecursion};
-ghost use Rattle.mill_model.specs.Charges.{Reaches};
-ghost use Rattle.order_symmetry.specs.Ranked.{orders_of};
-ghost use Rattle.core_replay.specs.Replayed.{IsResumable};
-ghost use Rattle.core_replay.specs.Resumed.{IsResumed};
+ghost use Rattle.std.specs.Prelude.{◌≡◌, ◌+◌, IfOk, length};
+ghost use Rattle.search_step.specs.Promise.{IsRun, records_of};
+ghost use Rattle.core_replay.specs.Replayed.{GoesOnFrom};
+ghost use Rattle.core_replay.specs.Resumed.{CanResume, IsResumed};
 
 use crate::crew::Crew;
 use mill_model::{Charges, Limits, OutOfMemory, Start};
@@ -20,21 +18,17 @@ pub(crate) fn resume(
     limits: Limits,
     schedule: &[u16],
 ) -> Result<Run, OutOfMemory>
-    requires light { All (λ order. order.weight ≤ ranked.now.mill.largest) (orders_of ranked.now) }
-    requires reach { Reaches charges.now ranked.now.mill }
-    requires some { 1 ≤ limits.workers }
-    requires few { limits.workers ≤ 64 }
-    requires nodes { limits.nodes ≤ 1000000000 }
-    requires drawn { run.drawn ≤ limits.nodes }
-    requires resumable { IsResumable ranked.now charges.now limits.nodes run }
-    requires numbers { AllByRecursion (λ number. number < limits.workers) schedule.now }
-    ensures { IfOk result (IsResumed ranked.now charges.now limits.nodes limits.workers
+    requires { CanResume ranked.now charges.now limits.nodes limits.workers schedule.now run }
+    ensures resumed { IfOk result (IsResumed ranked.now charges.now limits.nodes limits.workers
         schedule.now run) }
+    ensures run { IfOk result (IsRun ranked.now charges.now run.loss limits.nodes) }
+    ensures goes_on { IfOk result (GoesOnFrom ranked.now charges.now run) }
+    ensures more { IfOk result (λ after.
+        length (records_of after) ≡ length (records_of run) + limits.workers) }
 {
+    let _orders = ranked.len();
     let mut crew = Crew::new(alloc, ranked, charges, &limits, run.loss, run.drawn)?;
-    for path in run.unclosed {
-        crew.give(path)?;
-    }
+    crew.give_all(run.unclosed)?;
     crew.follow(schedule)?;
     crew.run_out()?;
     let start = Start {

@@ -1,4 +1,4 @@
-ghost use Rattle.std.specs.Prelude.{◌≡◌, ◌<◌, ◌≤◌, All, IfOk};
+ghost use Rattle.std.specs.Prelude.{◌≡◌, ◌<◌, ◌≤◌, ◌+◌, All, IfOk, length};
 ghost use Rattle.std.specs.List.{AllByRecursion};
 ghost use Rattle.mill_model.specs.Charges.{Reaches};
 ghost use Rattle.order_symmetry.specs.Ranked.{orders_of};
@@ -62,6 +62,8 @@ pub fn finish(
     requires resumable { IsResumable ranked.now charges.now limits.nodes run }
     ensures run { IfOk result (IsRun ranked.now charges.now run.loss limits.nodes) }
     ensures goes_on { IfOk result (GoesOnFrom ranked.now charges.now run) }
+    ensures one_more { IfOk result (λ after.
+        length (records_of after) ≤ length (records_of run) + 1) }
 {
     if run.unclosed.is_empty() || run.drawn > limits.nodes {
         return Ok(run);

@@ -49,3 +49,23 @@ pub fn instance_of(alloc: Global, sizes: &[u32], p: u8, mask: u32) -> Result<Ins
     let orders = orders_of(alloc, mask)?;
     Ok(Instance::new(sizes.to_vec(alloc)?, 0, orders, p))
 }
+
+/// Two light orders and one of weight two, each of a colour of its own, for one size, 4, and two
+/// colours a slab.
+pub fn three_orders(alloc: Global) -> Result<Instance, OutOfMemory> {
+    let orders = vec![in alloc;
+        Order {
+            weight: 1,
+            colour: 1
+        },
+        Order {
+            weight: 1,
+            colour: 2
+        },
+        Order {
+            weight: 2,
+            colour: 3
+        },
+    ]?;
+    Ok(Instance::new(vec![in alloc; 4]?, 0, orders, 2))
+}

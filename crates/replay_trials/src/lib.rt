@@ -3,6 +3,8 @@
 #![tactic(auto)]
 
 #[cfg(test)]
+mod finishes;
+#[cfg(test)]
 mod grid;
 #[cfg(test)]
 mod least;

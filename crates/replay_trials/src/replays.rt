@@ -2,14 +2,14 @@
 ghost use Rattle.std.specs.Prelude.{◌<◌, ◌≤◌, All, length};
 ghost use Rattle.mill_model.specs.Instance.{IsSize};
 
-use crate::grid::{MASKS, instance_of};
+use crate::grid::{MASKS, instance_of, three_orders};
 use crate::least::least_loss;
 use crate::machine::Machine;
 use crate::schedules::Draws;
 use crate::setting::Setting;
 use core_replay::replay;
 use log_checker::{LogVerdict, check_log};
-use mill_model::{Instance, Limits, Order, OutOfMemory};
+use mill_model::{Limits, OutOfMemory};
 use piece_merge::merge;
 use std::alloc::Global;
 use std::test::Fail;
@@ -230,21 +230,7 @@ fn a_budget_leaves_as_many_records(rt: HostRuntime) -> Result<(), Fail> {
 fn records_of_two(alloc: Global, schedule: &[u16]) -> Result<Option<(usize, usize)>, OutOfMemory>
     requires { All (λ number. number < 2) schedule.now }
 {
-    let orders = vec![in alloc;
-        Order {
-            weight: 1,
-            colour: 1
-        },
-        Order {
-            weight: 1,
-            colour: 2
-        },
-        Order {
-            weight: 2,
-            colour: 3
-        },
-    ]?;
-    let instance = Instance::new(vec![in alloc; 4]?, 0, orders, 2);
+    let instance = three_orders(alloc)?;
     let Some(setting) = Setting::of(alloc, instance)? else {
         return Ok(None);
     };

@@ -1,25 +1,14 @@
 -- The account of one step.
 use Rattle.std.proofs.Common.{◌≡◌, ℕ, ◌+◌, List, [], ◌∷◌, ◌++◌, Some, None, option_to_list, refl}
-use Rattle.std.proofs.Common.{sym, ap, ◌∙◌, arith, append_assoc, append-nil}
+use Rattle.std.proofs.Common.{sym, ap, ◌∙◌, arith, append-nil}
 use Rattle.list_laws.specs.Sets.{times, same_list}
 use Rattle.mill_model.specs.Log.{Task, recorded, split_children, left_open}
 use Rattle.mill_model.specs.declared.closing.Entry.{Entry}
 use Rattle.mill_model.specs.declared.closing.Closing.{Closing}
+use Rattle.mill_model.proofs.Records.{recorded-append, split-append}
 use Rattle.list_laws.proofs.Times.{times-append}
 use Rattle.search_step.specs.Parts.{Parts}
 use Rattle.search_step.specs.Accounts.{own_paths}
-
-pub recorded-append : (xs ys : List Entry) → recorded (xs ++ ys) ≡ recorded xs ++ recorded ys
-recorded-append [] ys = refl
-recorded-append (e ∷ xs) ys = ap (λ l. e.path ∷ l) (recorded-append xs ys)
-
-pub split-append : (task : Task) (xs ys : List Entry) →
-    split_children task (xs ++ ys) ≡ split_children task xs ++ split_children task ys
-split-append task [] ys = refl
-split-append task (e ∷ xs) ys =
-    ap (λ l. left_open task e.path e.closing ++ l) (split-append task xs ys)
-    ∙ sym (append_assoc (left_open task e.path e.closing) (split_children task xs)
-    (split_children task ys))
 
 abbrev count : List ℕ → List (List ℕ) → ℕ
 count x l = times same_list x l

@@ -128,6 +128,7 @@ impl<'a> Worker<'a> {
     /// Ends the worker, and takes no memory.
     pub fn finish(self) -> WorkerEnd
         ensures piece { result.piece.entries ≡ self.entry.parts.piece }
+        ensures orders { result.piece.orders ≡ self.entry.parts.orders }
         ensures held { result.held ≡ self.entry.parts.held }
         ensures waiting { result.waiting.items ≡ self.entry.parts.waiting }
         ensures best { result.best ≡ self.entry.parts.best }

@@ -1,4 +1,4 @@
--- `prove`: it reads an instance that stands alone, and answers it with a log. Its schedule is empty.
+-- `prove`: it reads an instance that stands alone, and answers it with a log; no schedule is read.
 use Rattle.std.specs.Prelude.{ℕ, List, []}
 use Rattle.job_words.specs.declared.job.Job.{Job}
 use Rattle.reply_text.specs.declared.outcome.Outcome.{Outcome}

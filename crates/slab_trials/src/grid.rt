@@ -41,39 +41,63 @@ fn grid_text(alloc: Global, orders: u32, code: u32) -> Result<Vec<u8>, OutOfMemo
     Ok(text)
 }
 
-// Up to four orders, equal ones among them: `prove`, and `replay` by a schedule of two workers.
+// Whether what a command answers to an instance with this text behind it loses what the best of all
+// plans loses, and is verified.
+fn is_right(
+    alloc: Global,
+    command: &str,
+    behind: &[u8],
+    input: &[u8],
+    p: u8,
+) -> Result<bool, OutOfMemory> {
+    let colours = format!(in alloc; "{p}")?;
+    let mut asked = input.to_vec(alloc)?;
+    asked.extend_from_slice(behind)?;
+    let (status, answer) = answered(alloc, command, &colours, &asked)?;
+    let mut judged = input.to_vec(alloc)?;
+    judged.extend_from_slice(&answer)?;
+    let (verified, line) = answered(alloc, "verify", &colours, &judged)?;
+
+    let Ok((instance, _)) = read_instance(alloc, input, p) else {
+        return Ok(false);
+    };
+    let least = least_loss(alloc, &instance)?;
+    let front = format!(in alloc; "optimal\nloss {least}\nplan")?;
+    let wanted = format!(in alloc; "verified loss {least}\n")?;
+    Ok(
+        (status, verified) == (0, 0)
+            && answer.starts_with(front.as_bytes())
+            && line.as_slice() == wanted.as_bytes(),
+    )
+}
+
+// Up to four orders, equal ones among them, from starts that few moves have made better.
 #[test]
 fn proves_the_least_loss_and_verifies_it(rt: HostRuntime) -> Result<(), Fail> {
     let alloc = rt.alloc();
-    let commands: [(&str, &[u8]); 2] = [
-        ("prove", b""),
-        ("replay --workers 2", b"schedule 1 0 1 1 0"),
-    ];
     for (orders, codes) in [(0, 1), (1, 4), (2, 16), (3, 64), (4, 256)] {
         for code in 0..codes {
             let input = grid_text(alloc, orders, code)?;
-            for (p, colours) in [(1, "1"), (2, "2"), (3, "3")] {
-                let (instance, end) = read_instance(alloc, &input, p)?;
-                let least = least_loss(alloc, &instance)?;
-                for (command, schedule) in commands {
-                    let mut asked = input.to_vec(alloc)?;
-                    asked.extend_from_slice(schedule)?;
-                    let (status, answer) = answered(alloc, command, colours, &asked)?;
-                    assert_eq!(rt; status, 0, "{command} {orders} {code}");
-                    let front = format!(in alloc; "optimal\nloss {least}\nplan")?;
-                    assert!(rt;
-                        answer.starts_with(front.as_bytes()),
-                        "{command} {orders} {code}"
-                    );
+            for p in 1..4 {
+                let right = is_right(alloc, "prove --moves 9", b"", &input, p)?;
+                assert!(rt; right, "{orders} {code} {p}");
+            }
+        }
+    }
+    Ok(())
+}
 
-                    let mut judged = input[..end].to_vec(alloc)?;
-                    judged.push(b'\n')?;
-                    judged.extend_from_slice(&answer)?;
-                    let (status, line) = answered(alloc, "verify", colours, &judged)?;
-                    assert_eq!(rt; status, 0, "{command} {orders} {code}");
-                    let wanted = format!(in alloc; "verified loss {least}\n")?;
-                    assert_eq!(rt; line.as_slice(), wanted.as_bytes(), "{orders} {code}");
-                }
+// Up to three orders, by two workers that a schedule lets take turns.
+#[test]
+fn replays_to_the_least_loss_and_verifies_it(rt: HostRuntime) -> Result<(), Fail> {
+    let alloc = rt.alloc();
+    let schedule = b"schedule 1 0 1 1 0";
+    for (orders, codes) in [(0, 1), (1, 4), (2, 16), (3, 64)] {
+        for code in 0..codes {
+            let input = grid_text(alloc, orders, code)?;
+            for p in 1..4 {
+                let right = is_right(alloc, "replay --workers 2", schedule, &input, p)?;
+                assert!(rt; right, "{orders} {code} {p}");
             }
         }
     }

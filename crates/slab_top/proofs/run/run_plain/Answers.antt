@@ -39,7 +39,8 @@ pub returns-in-Ok-reply-clause-kept : goal.returns-in-Ok-reply-clause-kept
 returns-in-Ok-reply-clause-kept g c feasible =
     let outcome = c.in-Ok-outcome_of.outcome in
     let hands = served-run c.in-Ok.job _ outcome c.in-Ok-outcome_of.ensures.served in
-    let written : c.write_out-status.result ≢ WRITE_FAULT = λ failed. omega (arith, feasible, failed) in
+    let written : c.write_out-status.result ≢ WRITE_FAULT =
+    λ failed. omega (arith, feasible, failed) in
     let status = c.write_out-status.ensures.status written ∙ c.in-Ok-reply.ensures.status in
     subst IsSome (sym (c.run_behind.ensures.written written)) (hands.feasible (sym status
     ∙ feasible))
@@ -141,7 +142,8 @@ returns-in-Ok-reply-clause-given g c whole =
           c.in-Ok.ensures.job (λ other asked. let same = c.in-Ok.ensures.asked other asked in cc)
           answered,
       c.write_out-status.ensures.status whole.written ∙ c.in-Ok-reply.ensures.status,
-      subst (Appends _ _) c.in-Ok-reply.ensures.text (c.write_out-status.ensures.whole whole.written),
+      subst (Appends _ _) c.in-Ok-reply.ensures.text
+          (c.write_out-status.ensures.whole whole.written),
       c.run_behind.ensures.written whole.written,
     )
 

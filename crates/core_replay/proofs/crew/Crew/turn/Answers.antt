@@ -1,4 +1,4 @@
-use Rattle.std.proofs.Common.{arith, rules, ◌≡◌, ◌<◌, ◌∙◌, ap, length, set, subst, sym}
+use Rattle.std.proofs.Common.{rules, ◌<◌, length, set, subst, sym}
 use Rattle.core_machine.specs.Core.{event}
 use Rattle.core_replay.specs.Crew.{CrewState, Goes, IsReady, parts_of}
 use Rattle.core_replay.proofs.CrewTurns.{crew-after, serves-worker, turn-goes}

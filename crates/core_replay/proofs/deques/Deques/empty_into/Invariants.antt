@@ -5,7 +5,8 @@ use Rattle.core_replay.proofs.deques.Deques.empty_into.Given as goal
 -- the paths so far and those that are left
 abbrev pub invariant-loop-deque : goal.invariant-loop-deque
 invariant-loop-deque l =
-    l.paths.items ++ flat_map (λ (list : List (List ℕ)). list) (lists_of l.deque-iterator.rest.items)
+    l.paths.items
+    ++ flat_map (λ (list : List (List ℕ)). list) (lists_of l.deque-iterator.rest.items)
     ≡ l.fn.paths.items ++ flat_map (λ (list : List (List ℕ)). list) l.fn.self.lists
 
 abbrev pub invariant-loop-path : goal.invariant-loop-path

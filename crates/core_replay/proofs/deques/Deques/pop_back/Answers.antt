@@ -9,8 +9,12 @@ returns-clause-is c =
     subst (λ (d : DequeLists). c.pop_back.result ≡ last_of (list_at d c.args.at)) c.self.view_is
     (popped-back c.self.inside.ranked.now c.self.inside.deques.items c.args.at c.from.result
     (search rules) c.index_mut.result.now c.pop_back.new.self
-    (omega (arith, c.requires, lists-length c.self.inside.deques.items,
-    ap (λ (d : DequeLists). length d.lists) c.self.view_is)) c.index_mut.ensures.value
+    (omega (
+      arith,
+      c.requires,
+      lists-length c.self.inside.deques.items,
+      ap (λ (d : DequeLists). length d.lists) c.self.view_is,
+    )) c.index_mut.ensures.value
     c.pop_back.result c.pop_back.ensures.items
     (none-there _ c.pop_back.result _ _ _ c.pop_back.ensures.cases
     (omega (arith, c.index_mut.result.now.ok.0)))).0
@@ -24,8 +28,12 @@ returns-clause-rest c =
     } ≡ with_list d c.args.at (front (list_at d c.args.at))) c.self.view_is
     (popped-back c.self.inside.ranked.now c.self.inside.deques.items c.args.at c.from.result
     (search rules) c.index_mut.result.now c.pop_back.new.self
-    (omega (arith, c.requires, lists-length c.self.inside.deques.items,
-    ap (λ (d : DequeLists). length d.lists) c.self.view_is)) c.index_mut.ensures.value
+    (omega (
+      arith,
+      c.requires,
+      lists-length c.self.inside.deques.items,
+      ap (λ (d : DequeLists). length d.lists) c.self.view_is,
+    )) c.index_mut.ensures.value
     c.pop_back.result c.pop_back.ensures.items
     (none-there _ c.pop_back.result _ _ _ c.pop_back.ensures.cases
     (omega (arith, c.index_mut.result.now.ok.0)))).1

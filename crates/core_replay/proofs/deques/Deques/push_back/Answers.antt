@@ -14,13 +14,23 @@ returns c = elim c.match-push_back.branch [
       } ≡ with_list d c.args.at (list_at d c.args.at ++ c.args.path ∷ [])) c.self.view_is
       (pushed-back c.self.inside.ranked.now c.self.inside.deques.items c.args.at c.from.result
       (search rules) c.index_mut.result.now c.push_back.new.self
-      (omega (arith, c.requires.at, lists-length c.self.inside.deques.items,
-    ap (λ (d : DequeLists). length d.lists) c.self.view_is))
+      (omega (
+        arith,
+        c.requires.at,
+        lists-length c.self.inside.deques.items,
+        ap (λ (d : DequeLists). length d.lists) c.self.view_is,
+      ))
       c.index_mut.ensures.value c.args.path w.in-Ok.ensures.items))
-  | in-Err w ↦ rw w.result-is (search rules,
-      unchanged c.self.inside.ranked.now c.self.inside.deques.items c.args.at c.from.result
-      (search rules) c.index_mut.result.now c.push_back.new.self
-      (omega (arith, c.requires.at, lists-length c.self.inside.deques.items,
-    ap (λ (d : DequeLists). length d.lists) c.self.view_is))
-      c.index_mut.ensures.value w.in-Err.ensures.items ∙ c.self.view_is)
+  | in-Err w ↦ rw w.result-is (
+    search rules,
+    unchanged c.self.inside.ranked.now c.self.inside.deques.items c.args.at c.from.result
+        (search rules) c.index_mut.result.now c.push_back.new.self
+        (omega (
+          arith,
+          c.requires.at,
+          lists-length c.self.inside.deques.items,
+          ap (λ (d : DequeLists). length d.lists) c.self.view_is,
+        ))
+        c.index_mut.ensures.value w.in-Err.ensures.items ∙ c.self.view_is,
+  )
 ]

@@ -17,7 +17,8 @@ prove-requires-clause-nodes c = (c.requires.in_range Nodes).1
 
 pub prove-requires-clause-numbers : goal.prove-requires-clause-numbers
 prove-requires-clause-numbers c =
-    subst (AllByRecursion (λ worker. worker < c.args.job.limits.workers)) (sym c.deref.ensures.value)
+    subst (AllByRecursion (λ worker. worker < c.args.job.limits.workers))
+    (sym c.deref.ensures.value)
     (schedule-below c.args.job.limits.workers _ c.in_ok-instance.schedule.items
     c.in_ok-instance.ensures.2.1)
 

@@ -4,10 +4,14 @@
 # First a row for each instance: its orders, its sizes (`drill` for the generator of `drill`), the
 # loss of first fit and the least one found, the nodes and whether they are all (1) or the budget
 # ended the run (0); how many of them are leaves, closed by the ascent's prices, closed after a
-# sweep, dominated, and split; then in microseconds a node: the whole run; prices alone; the groups
-# of the path; live keys; dead losses; children; the copy of the path that is noted; and the ratio
-# of the whole to prices alone. Prices and the others are those of the same nodes, called once more;
-# the copies that nodes make of their own path are in that of the groups.
+# sweep, dominated, and split; the part of those that ask for prices (all but leaves) whose live key
+# an earlier one had; then in microseconds a node: the whole run; prices alone; the groups of the
+# path; live keys; dead losses; children; the copy of the path that is noted; and the ratio of the
+# whole to prices alone. Prices and the others are those of the same nodes, called once more; the
+# copies that nodes make of their own path are in that of the groups.
+#
+# What the ascent and a sweep are worth is a function of the live key, but for 60 times the dead
+# loss: so the part of known keys is how often worths that were kept by live key would be found.
 #
 # Then what a search of the store takes, of 65,536 entries whose keys have forty groups: keys that
 # differ from their first groups on, and keys that differ in the last two alone; how many are found,
@@ -36,17 +40,17 @@ row() {
     for i in 1 2 3; do "$program" "$count" <"$scratch/instance"; done | awk '
         {
             counts = $1;
-            for (i = 2; i <= 10; i++) counts = counts " " $i;
-            for (i = 11; i <= 17; i++) if (NR == 1 || $i < least[i]) least[i] = $i;
+            for (i = 2; i <= 11; i++) counts = counts " " $i;
+            for (i = 12; i <= 18; i++) if (NR == 1 || $i < least[i]) least[i] = $i;
         }
         END {
             printf "%s", counts;
-            for (i = 11; i <= 17; i++) printf " %.0f", least[i];
+            for (i = 12; i <= 18; i++) printf " %.0f", least[i];
             print "";
         }'
 }
 
-echo "orders sizes seed first_fit least nodes whole leaves ascent sweep dominated split" \
+echo "orders sizes seed first_fit least nodes whole leaves ascent sweep dominated split known" \
     "us_node prices groups keys dead children copies ratio"
 for orders in 40 111 1024; do
     for sizes in drill "20 33 44"; do
@@ -58,8 +62,9 @@ for orders in 40 111 1024; do
                 awk -v sizes="${sizes// /,}" -v seed="$seed" '{
                     printf "%d %s %d", $1, sizes, seed;
                     for (i = 2; i <= 10; i++) printf " %d", $i;
-                    for (i = 11; i <= 17; i++) printf " %.2f", $i / 1000 / $4;
-                    printf " %.2f\n", $11 / $12;
+                    printf " %.2f", ($4 > $6 ? $11 / ($4 - $6) : 0);
+                    for (i = 12; i <= 18; i++) printf " %.2f", $i / 1000 / $4;
+                    printf " %.2f\n", $12 / $13;
                 }'
         done
     done
@@ -79,7 +84,7 @@ for orders in 4 6 8 10 12; do
                 awk '/^optimal$/ { optimal = 1 } optimal && /^loss / { print $2 }')
             echo "$("$program" 1000000 <"$scratch/instance") ${loss:--}"
         done | awk -v orders="$orders" -v sizes="${sizes// /,}" '
-            { whole += $5; nodes += $4; improved += $3 < $2; same += $5 == 1 && $3 == $18 }
+            { whole += $5; nodes += $4; improved += $3 < $2; same += $5 == 1 && $3 == $19 }
             END { print orders, sizes, NR, whole, nodes / NR, improved + 0, same + 0 }'
     done
 done

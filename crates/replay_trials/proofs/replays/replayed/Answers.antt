@@ -6,7 +6,6 @@ use Rattle.mill_model.specs.declared.closing.Entry.{Entry}
 use Rattle.mill_laws.proofs.Merged.{each-joined}
 use Rattle.mill_laws.proofs.Ranked.{rank-length}
 use Rattle.refute_log.specs.Fits.{fits}
-use Rattle.refute_log.specs.Logged.{Logged}
 use Rattle.search_step.specs.Promise.{records_of}
 use Rattle.replay_trials.proofs.replays.replayed.Goals as goal
 

@@ -5,7 +5,8 @@
 # sizes (`drill` for those of the generator of `drill`), the colours, the orders; how many of the
 # twenty are optimal, and of these how many at loss 0, and how many at the first node; the mean loss
 # of all twenty plans; and of the optimal ones the mean and the greatest number of nodes. Then the
-# milliseconds of an optimal and of a feasible one, reading and printing included, on average.
+# milliseconds of processor time of an optimal and of a feasible one, reading and printing included,
+# on average.
 #
 # Instances have weights up to 22 and 20 colours, and the seeds 1 to 20. The words are options of
 # `prove`, if any, such as `--nodes 100000`.
@@ -21,15 +22,13 @@ for sizes in "drill" "20 33 44" "30 45"; do
             for seed in $(seq 20); do
                 # shellcheck disable=SC2086
                 "$maker" "$seed" "$orders" ${sizes#drill} >"$scratch/instance"
-                began=$(date +%s%N)
-                "$product" prove --colours "$colours" "$@" <"$scratch/instance" \
-                    >"$scratch/answer" || true
-                ended=$(date +%s%N)
-                awk -v took=$((ended - began)) '
+                took=$({ TIMEFORMAT=%U; time "$product" prove --colours "$colours" "$@" \
+                    <"$scratch/instance" >"$scratch/answer" || true; } 2>&1)
+                awk -v took="$took" '
                     NR == 1 { kind = $1 }
                     $1 == "loss" { loss = $2 }
                     $1 == "log" { nodes = $3 }
-                    END { print kind, loss, nodes + 0, took / 1e6 }' "$scratch/answer"
+                    END { print kind, loss, nodes + 0, took * 1000 }' "$scratch/answer"
             done | awk -v sizes="${sizes// /,}" -v colours="$colours" -v orders="$orders" '
                 {
                     loss += $2;

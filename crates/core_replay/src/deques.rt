@@ -1,3 +1,4 @@
+//! The workers' deques.
 ghost use Rattle.std.specs.Prelude.{◌≡◌, ◌<◌, ◌++◌, ◌∷◌, [], IfOk, IfSome, MatchResult, OnOk};
 ghost use Rattle.std.specs.Prelude.{flat_map, length, replicate};
 ghost use Rattle.std.specs.List.{list_all};
@@ -91,6 +92,7 @@ impl<'a> Deques<'a> {
         }
         true
     }
+
     // Appends the paths of all deques.
     pub(crate) fn empty_into(self, paths: &mut Vec<Path>) -> Result<(), OutOfMemory>
         ensures { OnOk result (paths.new.items

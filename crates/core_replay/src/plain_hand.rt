@@ -1,3 +1,4 @@
+//! The plain hand. Each of its calls answers and changes just what the machine's calls do.
 ghost use Rattle.std.specs.Prelude.{◌≡◌, ◌<◌, ◌≤◌, ◌++◌, IfOk, OnOk, flat_map, length};
 ghost use Rattle.core_replay.specs.Plain.{new_hand, serving};
 

@@ -1,3 +1,4 @@
+//! A replay, and the end of a run that was left.
 ghost use Rattle.std.specs.Prelude.{◌≡◌, ◌<◌, ◌≤◌, ◌+◌, All, IfOk, length};
 ghost use Rattle.std.specs.List.{AllByRecursion};
 ghost use Rattle.mill_model.specs.Charges.{Reaches};

@@ -1,3 +1,4 @@
+//! The turns of a crew: one, those of a schedule, rounds of all workers, and rounds to their end.
 ghost use Rattle.std.specs.Prelude.{◌≡◌, ◌<◌, IfOk, length};
 ghost use Rattle.std.specs.List.{AllByRecursion, list_any};
 ghost use Rattle.core_machine.specs.Core.{Rounds, after_schedule, event, whole_round};

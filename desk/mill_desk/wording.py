@@ -41,6 +41,8 @@ LINES: dict[str, str] = {
                                            'range.',
     'refused rest byte A': 'Something stands behind the instance, at byte {A}, counted from 0: a '
                            'count is too small, or there is a number too many.',
+    'refused schedule token T': 'Number {T} of the schedule isn\'t the number of a worker; number '
+                                '0 is the word schedule, which is to come first.',
     'refused answer line N': 'Line {N} of the answer isn\'t as it must be, or is missing.',
     'refused answer line N not rising': 'Line {N} of the answer is a record whose path doesn\'t '
                                         'come after the one before.',

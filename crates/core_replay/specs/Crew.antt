@@ -2,6 +2,7 @@
 use Rattle.std.specs.Prelude.{ℕ, suc, ◌≡◌, ◌<◌, ◌≤◌, Bool, true, false, List, [], ◌∷◌, map}
 use Rattle.std.specs.Prelude.{length}
 use Rattle.mill_model.specs.Charges.{ChargeTable}
+use Rattle.mill_model.specs.declared.limits.TheConstants.{MAX_NODES}
 use Rattle.mill_model.specs.declared.closing.Entry.{Entry}
 use Rattle.order_symmetry.specs.Ranked.{RankedOrders, IsRanked}
 use Rattle.refute_log.specs.Pieces.{Pieced}
@@ -101,7 +102,7 @@ Goes OutOfMemory next c = Unit {0}
 -- workers that may make turns
 pub record IsReady (c : CrewState) : Type 0 where
   pub ranks : IsRanked c.ranked
-  pub nodes : c.budget ≤ 1000000000
+  pub nodes : c.budget ≤ MAX_NODES
   pub steady : IsSteady c.ranked c.charges c.budget c.core
 
 -- what turns don't change

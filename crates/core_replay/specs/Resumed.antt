@@ -2,6 +2,7 @@
 use Rattle.std.specs.Prelude.{ℕ, ◌≡◌, ◌<◌, ◌≤◌, All, List, ◌++◌, length}
 use Rattle.std.specs.List.{AllByRecursion}
 use Rattle.mill_model.specs.Charges.{ChargeTable, Reaches}
+use Rattle.mill_model.specs.declared.limits.TheConstants.{MAX_NODES}
 use Rattle.order_symmetry.specs.Ranked.{RankedOrders, orders_of}
 use Rattle.refute_log.specs.declared.piece.Run.{Run}
 use Rattle.search_step.specs.Promise.{records_of}
@@ -17,7 +18,7 @@ pub record CanResume (ranked : RankedOrders) (charges : ChargeTable) (nodes work
   pub reach : Reaches charges ranked.mill
   pub some : 1 ≤ workers
   pub few : workers ≤ 64
-  pub within : nodes ≤ 1000000000
+  pub within : nodes ≤ MAX_NODES
   pub drawn : given.drawn ≤ nodes
   pub resumable : IsResumable ranked charges nodes given
   pub numbers : AllByRecursion (λ (number : ℕ). number < workers) schedule

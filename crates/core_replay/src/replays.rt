@@ -2,6 +2,7 @@
 ghost use Rattle.std.specs.Prelude.{◌≡◌, ◌<◌, ◌≤◌, ◌+◌, All, IfOk, length};
 ghost use Rattle.std.specs.List.{AllByRecursion};
 ghost use Rattle.mill_model.specs.Charges.{Reaches};
+ghost use Rattle.mill_model.specs.declared.limits.TheConstants.{MAX_NODES};
 ghost use Rattle.order_symmetry.specs.Ranked.{orders_of};
 ghost use Rattle.search_step.specs.Honest.{IsKept};
 ghost use Rattle.search_step.specs.Promise.{IsRun, IsThrifty, EachSplitsAnew, records_of};
@@ -29,7 +30,7 @@ pub fn replay(
     requires start { IsKept ranked.now charges.now start }
     requires some { 1 ≤ limits.workers }
     requires few { limits.workers ≤ 64 }
-    requires nodes { limits.nodes ≤ 1000000000 }
+    requires nodes { limits.nodes ≤ MAX_NODES }
     requires numbers { AllByRecursion (λ number. number < limits.workers) schedule.now }
     ensures run { IfOk result (IsRun ranked.now charges.now start.loss limits.nodes) }
     ensures thrifty { IfOk result (IsThrifty ranked.now charges.now start.loss) }
@@ -59,7 +60,7 @@ pub fn finish(
 ) -> Result<Run, OutOfMemory>
     requires light { All (λ order. order.weight ≤ ranked.now.mill.largest) (orders_of ranked.now) }
     requires reach { Reaches charges.now ranked.now.mill }
-    requires nodes { limits.nodes ≤ 1000000000 }
+    requires nodes { limits.nodes ≤ MAX_NODES }
     requires resumable { IsResumable ranked.now charges.now limits.nodes run }
     ensures run { IfOk result (IsRun ranked.now charges.now run.loss limits.nodes) }
     ensures goes_on { IfOk result (GoesOnFrom ranked.now charges.now run) }

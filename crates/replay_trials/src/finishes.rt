@@ -2,7 +2,7 @@
 ghost use Rattle.std.specs.Prelude.{◌≤◌};
 
 use crate::grid::three_orders;
-use crate::setting::Setting;
+use crate::setting::{Setting, path_of};
 use core_replay::finish;
 use mill_model::{Limits, OutOfMemory, Path};
 use refute_log::Run;
@@ -18,15 +18,16 @@ struct Seen {
     drawn: u64,
 }
 
-// A run of three orders that closed nothing, from the plan that gives each order a slab of its own,
-// is finished with so many tickets.
+// A run of three orders that closed nothing, from the plan 0, 1, 0, is finished with so many
+// tickets. In rank the orders stand 2, 0, 1, so this is the plan of the path 0, 0, 1.
 fn finished(alloc: Global, nodes: u64) -> Result<Option<Seen>, OutOfMemory>
     requires { nodes ≤ 1000000000 }
 {
     let Some(setting) = Setting::of(alloc, three_orders(alloc)?)? else {
         return Ok(None);
     };
-    let Some(start) = setting.each_alone(alloc)? else {
+    let leaf = path_of(alloc, &setting.ranked, &[0, 0, 1])?;
+    let Some(start) = setting.start_at(alloc, &leaf)? else {
         return Ok(None);
     };
     let mut unclosed = Vec::with_capacity(alloc, 1)?;
@@ -52,8 +53,7 @@ fn finished(alloc: Global, nodes: u64) -> Result<Option<Seen>, OutOfMemory>
     }))
 }
 
-// Each order alone loses 3, 3 and 2. Two slabs are needed for three colours, and lose 8 less the
-// weights.
+// Two slabs are needed for three colours, and lose 8 less the weights.
 #[test]
 fn one_more_worker_closes_what_is_left(rt: HostRuntime) -> Result<(), Fail> {
     let alloc = rt.alloc();
@@ -68,7 +68,7 @@ fn without_a_ticket_the_path_is_left(rt: HostRuntime) -> Result<(), Fail> {
     let nothing_closed = Seen {
         pieces: 1,
         unclosed: 1,
-        loss: 8,
+        loss: 4,
         drawn: 1,
     };
     assert_eq!(rt; seen, Some(nothing_closed));

@@ -52,7 +52,15 @@ impl Setting {
                 }
             }
         }
-        let node = NodeState::of(alloc, &self.ranked, &path)?;
+        self.start_at(alloc, &path)
+    }
+
+    /// The plan of a leaf with its loss, if the path is one.
+    pub fn start_at(&self, alloc: Global, path: &Path) -> Result<Option<Start>, OutOfMemory>
+        requires { IsPathOf self.now.ranked path.now }
+        ensures { IfOk result (λ found. IfSome found (IsKept self.now.ranked self.now.charges)) }
+    {
+        let node = NodeState::of(alloc, &self.ranked, path)?;
         if node.depth() != self.ranked.len() {
             return Ok(None);
         }

@@ -1,4 +1,5 @@
 //! What is proved of each small instance loses what the best of all plans loses, and is verified.
+ghost use Rattle.std.specs.Prelude.{◌≤◌};
 
 use crate::least::least_loss;
 use instance_text::read_instance;
@@ -49,7 +50,9 @@ fn is_right(
     behind: &[u8],
     input: &[u8],
     p: u8,
-) -> Result<bool, OutOfMemory> {
+) -> Result<bool, OutOfMemory>
+    requires { (1 ≤ p) × (p ≤ 8) }
+{
     let colours = format!(in alloc; "{p}")?;
     let mut asked = input.to_vec(alloc)?;
     asked.extend_from_slice(behind)?;

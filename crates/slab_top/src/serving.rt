@@ -1,5 +1,7 @@
-ghost use Rattle.std.specs.Prelude.{◌≡◌, ◌≢◌, ◌≤◌, ◌++◌, ℕ, List, Err, None, length, IfOk, IfSome};
-ghost use Rattle.std.specs.Prelude.{IsErrOf, IsSome, OnOk};
+//! Serves words: reads what they ask to be read, has it answered by a searcher, and writes the answer
+//! out. What `run` and `run_plain` promise is proved here, for each searcher.
+ghost use Rattle.std.specs.Prelude.{◌≡◌, ◌≢◌, ◌≤◌, ◌++◌, ℕ, true, List, Err, None, length, IfOk};
+ghost use Rattle.std.specs.Prelude.{IfSome, IsErrOf, IsSome, OnOk};
 ghost use Rattle.std.specs.Io.KnownBytes.{Appends, IsAtEnd};
 ghost use Rattle.mill_io.specs.Causes.{Rose};
 ghost use Rattle.mill_io.specs.Bytes.{AppendsFront, AppendsToBoth, GivesLost};
@@ -13,8 +15,10 @@ ghost use Rattle.slab_top.specs.Served.{Output, IsRight, IsServed, run_of, statu
 ghost use Rattle.slab_top.specs.Agree.{Agree, MayEndWith};
 ghost use Rattle.slab_top.specs.Given.{HasAnswered, IsServedWhole};
 ghost use Rattle.slab_top.specs.Run.{HasEnough, IsAnswered, IsOwnStatus, IsStatus, IsToBeRead};
+ghost use Rattle.slab_top.specs.Threads.{NeedThreads, NeedsThreads};
 
 use crate::commands::serve;
+use crate::searcher::Searcher;
 use job_words::{Job, read_words, write_usage};
 use mill_io::{ReadError, Sink, Source, read_all};
 use refute_log::Run;
@@ -31,8 +35,14 @@ enum Failure {
 }
 
 // What a job answers to a source.
-fn outcome_of<S: Source>(alloc: Global, job: Job, source: &mut S) -> Result<Outcome, Failure>
+fn outcome_of<V: Searcher, S: Source>(
+    searcher: &V,
+    alloc: Global,
+    job: Job,
+    source: &mut S,
+) -> Result<Outcome, Failure>
     requires in_range { IsInRange job }
+    requires threads { NeedsThreads job → V.has_threads ≡ true }
     ensures served { IfOk result (IsServed job (S.left source.old)) }
     ensures told { IfOk result IsToTell }
     ensures ended { OnOk result (IfSome (S.left source.old) (λ input.
@@ -53,7 +63,7 @@ fn outcome_of<S: Source>(alloc: Global, job: Job, source: &mut S) -> Result<Outc
         Err(ReadError::ReadFault) => return Err(Failure::ReadFault),
         Err(ReadError::OutOfMemory) => return Err(Failure::OutOfMemory),
     };
-    match serve(alloc, job, &input) {
+    match serve(searcher, alloc, job, &input) {
         Ok(outcome) => Ok(outcome),
         Err(Stop::Refused(why)) => Ok(Outcome::Refused(why)),
         Err(Stop::OutOfMemory) => Err(Failure::OutOfMemory),
@@ -92,55 +102,32 @@ fn run_behind(outcome: Outcome, status: u8) -> Option<Run>
     }
 }
 
-/// The top call: serves what the words ask for, gives the status that the program ends with, and
-/// hands out the run behind a feasible answer in `kept`. `solve`, `prove` and `replay` answer an
-/// instance.
-///
-/// | status | where |
-/// |---|---|
-/// | 0 | an answering command wrote an optimal plan; or `check` or `verify` accepted the answer |
-/// | 1 | an answering command wrote the first order that no slab holds |
-/// | 2 | the words ask for nothing that the program does |
-/// | 3 | the input was refused |
-/// | 4 | an answering command wrote a feasible plan: the budget was spent, and a path is left |
-/// | 5 | a read failed; nothing was written |
-/// | 6 | a write failed; a front of the text was written |
-/// | 7 | want of memory; nothing was written |
-/// | 8 | `check` or `verify` rejected the answer |
-pub fn run_plain<S: Source, K: Sink>(
+/// Serves what the words ask for, gives the status that the program ends with, and hands out the run
+/// behind a feasible answer in `kept`. `run` says what the clauses mean.
+pub fn serve_words<V: Searcher, S: Source, K: Sink>(
+    searcher: &V,
     alloc: Global,
     words: &[String],
     source: &mut S,
     sink: &mut K,
     kept: &mut Option<Run>,
 ) -> u8
-    // Unless something failed, the status is that of an output that is right for the words and the
-    // bytes, and its text was written whole; and the run behind it is handed out.
+    requires threads { NeedThreads (texts words.now) → V.has_threads ≡ true }
     ensures answered { IsAnswered result → (output : Output)
         × IsRight (texts words.now) (S.left source.old) output
         × (result ≡ status_of output)
         × Appends (K.written sink.old) (K.written sink.new) (text_of output)
         × (kept.new ≡ run_of output) }
-
-    // A run is handed out exactly behind a feasible answer.
     ensures kept { result ≡ FEASIBLE → IsSome kept.new }
     ensures none_kept { result ≢ FEASIBLE → kept.new ≡ None }
-
-    // Where the bytes are told, each output that is right has this status: it comes exactly there.
-    // Only whether a plan is optimal or feasible is left open, where the budget isn't enough.
     ensures exact { IsAnswered result → IsSome (S.left source.old) → (output : Output)
         → IsRight (texts words.now) (S.left source.old) output → MayEndWith output result }
     ensures enough { IfSome (S.left source.old) (λ input.
         HasEnough (texts words.now) input → result ≢ FEASIBLE) }
-
-    // And it agrees with the output that was written.
     ensures told { IsAnswered result → IsSome (S.left source.old) → (output : Output)
         → IsRight (texts words.now) (S.left source.old) output → (written : Output)
         × Agree written output
         × Appends (K.written sink.old) (K.written sink.new) (text_of written) }
-
-    // The same is so of the bytes that the reads of this call gave, which are told always, even of
-    // the real input.
     ensures given { IsAnswered result → (input : List ℕ) × (output : Output)
         × (S.given source.new ≡ S.given source.old ++ input)
         × IsServedWhole (texts words.now) input (S.ended source.new) output
@@ -153,20 +140,14 @@ pub fn run_plain<S: Source, K: Sink>(
         × (S.given source.new ≡ S.given source.old ++ input)
         × IsServedWhole (texts words.now) input (S.ended source.new) output
         × AppendsFront (K.written sink.old) (K.written sink.new) (text_of output) }
-
-    // The reads of this call gave all that the source lost, and what was written is held.
     ensures lost { GivesLost (S.left source.old) (S.left source.new)
         (S.given source.old) (S.given source.new) }
     ensures held { AppendsToBoth (K.written sink.old) (K.written sink.new)
         (K.held sink.old) (K.held sink.new) }
-
-    // Bytes that are to be read were read to the end, and else none was.
     ensures ended { IsAnswered result → IfSome (S.left source.old) (λ input.
         IsToBeRead (texts words.now) input → IsAtEnd (S.left source.new)) }
     ensures unread { ((job : Job) → AskFor (texts words.now) job → ⊥) → source.new ≡ source.old }
     ensures known { IsStatus result }
-
-    // A fault of the source is the one cause of its status, and has no other; so with the sink.
     ensures read_fault { result ≡ READ_FAULT → Rose (S.faults source.old) (S.faults source.new) }
     ensures no_read_fault { result ≢ READ_FAULT → S.faults source.new ≡ S.faults source.old }
     ensures write_fault { result ≡ WRITE_FAULT → Rose (K.faults sink.old) (K.faults sink.new) }
@@ -174,8 +155,6 @@ pub fn run_plain<S: Source, K: Sink>(
     ensures front { result ≡ WRITE_FAULT → (output : Output)
         × IsRight (texts words.now) (S.left source.old) output
         × AppendsFront (K.written sink.old) (K.written sink.new) (text_of output) }
-
-    // The other failures come before the first write, and want of memory only to a job.
     ensures unwritten { result ≡ READ_FAULT → sink.new ≡ sink.old }
     ensures memory { result ≡ OUT_OF_MEMORY → sink.new ≡ sink.old }
     ensures memory_for { result ≡ OUT_OF_MEMORY → (job : Job) × AskFor (texts words.now) job }
@@ -187,7 +166,7 @@ pub fn run_plain<S: Source, K: Sink>(
             Err(_) => WRITE_FAULT,
         };
     };
-    match outcome_of(alloc, job, source) {
+    match outcome_of(searcher, alloc, job, source) {
         Ok(outcome) => match outcome.reply(alloc) {
             Ok(reply) => {
                 let status = write_out(sink, &reply);

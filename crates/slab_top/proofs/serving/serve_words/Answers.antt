@@ -14,7 +14,7 @@ use Rattle.slab_top.proofs.Replying.{agree-status, outcome-own}
 use Rattle.slab_top.proofs.Rights.{right-agree, enough-served, ended-for, wrong-agree, unread-for}
 use Rattle.slab_top.proofs.Rights.{served-run, none-kept}
 use Rattle.slab_top.proofs.Given.{served-whole-of, served-none, enough-given}
-use Rattle.slab_top.proofs.run.run_plain.Goals as goal
+use Rattle.slab_top.proofs.serving.serve_words.Goals as goal
 
 pub write_out-status-requires : goal.write_out-status-requires
 write_out-status-requires g c = record {

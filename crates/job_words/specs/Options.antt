@@ -7,8 +7,7 @@ use Rattle.job_words.specs.declared.command.Command.TheVariants.{Solve, Prove, C
 use Rattle.job_words.specs.declared.command.Command.TheVariants.{Replay}
 use Rattle.job_words.specs.declared.option.Rule.{Rule}
 use Rattle.job_words.specs.declared.option.Scope.{Scope}
-use Rattle.job_words.specs.declared.option.Scope.TheVariants.{Every, Searching}
-use Rattle.job_words.specs.declared.option.Scope.TheVariants.{Replaying, Planned}
+use Rattle.job_words.specs.declared.option.Scope.TheVariants.{Every, Searching, Planned}
 use Rattle.job_words.specs.declared.option.Setting.{Setting}
 use Rattle.job_words.specs.declared.option.Setting.TheVariants.{Workers, Nodes, Colours}
 use Rattle.job_words.specs.declared.option.Setting.TheVariants.{Moves, Seed, Orders}
@@ -51,16 +50,10 @@ searches Check = false
 searches Verify = false
 searches Replay = true
 
--- whether it replays a schedule
-abbrev pub replays : Command → Bool
-replays Replay = true
-replays command = false
-
 -- whether a command is among those of a scope
 abbrev pub is_in : Scope → Command → Bool
 is_in Every command = true
 is_in Searching command = searches command
-is_in Replaying command = replays command
 is_in Planned command = false
 
 -- whether an option may stand with a command

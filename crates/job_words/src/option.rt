@@ -29,8 +29,6 @@ pub enum Scope {
     Every,
     /// Those that search.
     Searching,
-    /// The one that replays a schedule.
-    Replaying,
     /// None yet: the option is planned only, and nothing but the usage line has it.
     Planned,
 }
@@ -52,7 +50,7 @@ pub const WORKERS: Rule = Rule {
     least: 1,
     greatest: 64,
     default: 1,
-    scope: Scope::Replaying,
+    scope: Scope::Searching,
 };
 
 /// How many paths a search closes at most.
@@ -123,7 +121,6 @@ impl Command {
             Scope::Searching => {
                 matches!(self, Command::Solve | Command::Prove | Command::Replay)
             }
-            Scope::Replaying => matches!(self, Command::Replay),
             Scope::Planned => false,
         }
     }

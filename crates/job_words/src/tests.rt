@@ -29,9 +29,9 @@ fn other_words_ask_for_nothing(rt: HostRuntime) -> Result<(), Fail> {
         (&["--colours", "1", "solve"], 0),
         (&["verify", "--nodes", "5"], 1),
         (&["solve", ""], 1),
-        (&["solve", "--workers", "1"], 1),
+        (&["check", "--workers", "1"], 1),
         (&["check", "--moves", "1"], 1),
-        (&["prove", "--workers", "2"], 1),
+        (&["verify", "--workers", "2"], 1),
         (&["replay", "--seed", "1"], 1),
         (&["solve", "--colours=1"], 1),
         (&["solve", "--nodes"], 2),
@@ -44,7 +44,7 @@ fn other_words_ask_for_nothing(rt: HostRuntime) -> Result<(), Fail> {
         (&["solve", "--colours", "+1"], 2),
         (&["solve", "--colours", "18446744073709551617"], 2),
         (&["replay", "--workers", "0"], 2),
-        (&["replay", "--workers", "65"], 2),
+        (&["solve", "--workers", "65"], 2),
         (&["prove", "--nodes", "1", "--nodes", "1"], 3),
         (&["solve", "--moves", "1", "--moves", "2"], 3),
         (&["check", "--colours", "1", "--nodes", "1"], 3),
@@ -126,16 +126,32 @@ fn right_words_ask_for_a_job(rt: HostRuntime) -> Result<(), Fail> {
     Ok(())
 }
 
-// Each row: words that replay a schedule, and the numbers of workers and nodes that they ask for.
+// Each row: words of a search, and the command, workers and nodes that they ask for.
 #[test]
-fn replay_takes_workers(rt: HostRuntime) -> Result<(), Fail> {
-    let rows: [(&[&str], u16, u64); 4] = [
-        (&["replay"], 1, 20_000),
-        (&["replay", "--workers", "64"], 64, 20_000),
-        (&["replay", "--nodes", "7", "--workers", "1"], 1, 7),
-        (&["replay", "--workers", "003", "--nodes", "0"], 3, 0),
+fn a_search_takes_workers(rt: HostRuntime) -> Result<(), Fail> {
+    let rows: [(&[&str], Command, u16, u64); 5] = [
+        (&["replay"], Command::Replay, 1, 20_000),
+        (&["solve", "--workers", "64"], Command::Solve, 64, 20_000),
+        (
+            &["prove", "--nodes", "7", "--workers", "8"],
+            Command::Prove,
+            8,
+            7,
+        ),
+        (
+            &["replay", "--nodes", "7", "--workers", "1"],
+            Command::Replay,
+            1,
+            7,
+        ),
+        (
+            &["replay", "--workers", "003", "--nodes", "0"],
+            Command::Replay,
+            3,
+            0,
+        ),
     ];
-    for (row, workers, nodes) in rows {
+    for (row, command, workers, nodes) in rows {
         let words = words_of(rt.alloc(), row)?;
         let limits = Limits {
             nodes,
@@ -143,7 +159,7 @@ fn replay_takes_workers(rt: HostRuntime) -> Result<(), Fail> {
             workers,
         };
         let job = Job {
-            command: Command::Replay,
+            command,
             limits,
             p: 2,
             seed: 1,

@@ -16,6 +16,16 @@ use Rattle.slab_top.proofs.Rights.{served-run, none-kept}
 use Rattle.slab_top.proofs.Given.{served-whole-of, served-none, enough-given}
 use Rattle.slab_top.proofs.serving.serve_words.Goals as goal
 
+-- a searcher that has threads where the words need them has them where their job does
+
+pub outcome_of-requires-clause-threads : goal.outcome_of-requires-clause-threads
+outcome_of-requires-clause-threads g c needs =
+    c.requires.threads (record {
+      job = c.in-Ok.job;
+      asked = c.in-Ok.ensures.job;
+      needs = needs;
+    })
+
 pub write_out-status-requires : goal.write_out-status-requires
 write_out-status-requires g c = record {
   own = subst IsOwnStatus (sym c.in-Ok-reply.ensures.status)

@@ -1,7 +1,7 @@
 -- What a search prints has one right answer from the other half of the program, between two jobs
 -- and so between two runs.
 use Rattle.std.specs.Prelude.{Some}
-use Rattle.std.proofs.Common.{◌≡◌, ℕ, ◌≤◌, List, [], length, refl, sym, ap, ◌∙◌, subst, inl}
+use Rattle.std.proofs.Common.{◌≡◌, ℕ, ◌≤◌, List, length, refl, sym, ap, ◌∙◌, subst, inl}
 use Rattle.std.proofs.Common.{inr}
 use Rattle.mill_model.specs.Instance.{Problem}
 use Rattle.mill_model.specs.declared.limits.Limits.{Limits}
@@ -23,6 +23,7 @@ use Rattle.slab_top.specs.Reply.{Replies, Tells}
 use Rattle.slab_top.specs.Served.{Serves, IsAnswer, IsRight, Output, Answered}
 use Rattle.slab_top.specs.Served.{WrongWords}
 use Rattle.slab_top.specs.Agree.{AgreeOnOutcomes}
+use Rattle.slab_top.specs.Threads.{course_of}
 use Rattle.slab_top.specs.BothHalves.{with_printed, verified_as, checked_as, IsOnlyAnswer}
 use Rattle.slab_top.specs.BothHalves.{IsAnsweredBehind}
 use Rattle.slab_top.specs.BothHalves.{IsOnlyRight, IsRightBehind}
@@ -130,26 +131,27 @@ module _ (Is : Limits → Problem → Solution → Type 0)
 
 pub verify-behind-prove : IsAnsweredBehind Prove Verify verified_as
 verify-behind-prove =
-    answered-behind (λ limits. IsProved limits [])
+    answered-behind (λ limits. IsProved limits (course_of limits))
     (λ limits problem solution is. is.told.reads_back) Verify verified_as
     (λ limits problem job bytes solution reads is.
-    verifies-proved limits problem [] job bytes solution.answer solution.run reads is)
-    verified-itself Prove (searched (λ limits. IsProved limits []))
+    verifies-proved limits problem (course_of limits) job bytes solution.answer solution.run reads is)
+    verified-itself Prove (searched (λ limits. IsProved limits (course_of limits)))
 
 pub check-behind-prove : IsAnsweredBehind Prove Check checked_as
 check-behind-prove =
-    answered-behind (λ limits. IsProved limits [])
+    answered-behind (λ limits. IsProved limits (course_of limits))
     (λ limits problem solution is. is.told.reads_back) Check checked_as
     (λ limits problem job bytes solution reads is.
     checks-told limits problem job bytes solution.answer reads is.told.solution) checked-itself
-    Prove (searched (λ limits. IsProved limits []))
+    Prove (searched (λ limits. IsProved limits (course_of limits)))
 
 pub check-behind-solve : IsAnsweredBehind Solve Check checked_as
 check-behind-solve =
-    answered-behind IsSolved (λ limits problem solution is. is.told.reads_back) Check checked_as
+    answered-behind (λ limits. IsSolved limits (course_of limits))
+    (λ limits problem solution is. is.told.reads_back) Check checked_as
     (λ limits problem job bytes solution reads is.
     checks-told limits problem job bytes solution.answer reads is.told.solution) checked-itself
-    Solve (searched IsSolved)
+    Solve (searched (λ limits. IsSolved limits (course_of limits)))
 
 -- ---- two runs
 

@@ -1,6 +1,6 @@
 -- What each command's relation keeps: right outcomes agree, with a budget that is enough the status
 -- isn't that of a feasible plan, and a run is handed out exactly with that status.
-use Rattle.std.proofs.Common.{◌≡◌, ◌≢◌, ℕ, Bool, true, false, cond, List, []}
+use Rattle.std.proofs.Common.{◌≡◌, ◌≢◌, ℕ, Bool, true, false, cond, List}
 use Rattle.std.proofs.Common.{refl, sym, ap, ◌∙◌, subst, arith}
 use Rattle.std.specs.Prelude.{Option, Some, None}
 use Rattle.mill_model.specs.Instance.{Problem}
@@ -20,6 +20,7 @@ use Rattle.reply_text.specs.declared.solution.Solution.{Solution}
 use Rattle.reply_text.specs.declared.status.TheConstants.{ACCEPTED, FEASIBLE, REJECTED}
 use Rattle.reply_text.specs.Judgement.{is_accepted}
 use Rattle.reply_text.specs.Outcome.{status_of, status_of_answer, run_of}
+use Rattle.solve_answer.specs.Course.{Course, Scheduled}
 use Rattle.solve_answer.specs.Solved.{HandsOut, IsSolution, IsSolved, IsProved, IsTold}
 use Rattle.solve_answer.proofs.SolutionsAgree.{solutions-agree}
 use Rattle.judge_answer.specs.Check.{IsSaidOf}
@@ -33,6 +34,7 @@ use Rattle.slab_top.specs.Solve.{Solves}
 use Rattle.slab_top.specs.Prove.{Proves}
 use Rattle.slab_top.specs.Replay.{Replays}
 use Rattle.slab_top.specs.Run.{IsEnoughFor}
+use Rattle.slab_top.specs.Threads.{course_of}
 use Rattle.slab_top.specs.Check.{Checks}
 use Rattle.slab_top.specs.Verify.{Verifies}
 use Rattle.slab_top.specs.Agree.{AgreeOnOutcomes}
@@ -70,27 +72,27 @@ front-is p bytes problem end read colours begins reads =
     (colours ∙ sym reads.0)).0
 
 -- the run behind an answer is handed out where it is feasible
-answer-run : (limits : Limits) (schedule : List ℕ) (problem : Problem) (answer : Answer)
-    (run : Option Run) → HandsOut limits schedule problem answer run →
+answer-run : (limits : Limits) (course : Course) (problem : Problem) (answer : Answer)
+    (run : Option Run) → HandsOut limits course problem answer run →
     HandsOutRun (Solved (record { answer = answer; run = run }))
-answer-run limits schedule problem (Feasible loss plan spent) None is = absurd is
-answer-run limits schedule problem (Feasible loss plan spent) (Some run) is = record {
+answer-run limits course problem (Feasible loss plan spent) None is = absurd is
+answer-run limits course problem (Feasible loss plan spent) (Some run) is = record {
   feasible = λ e. refl;
   otherwise = λ other. absurd (other refl);
 }
-answer-run limits schedule problem (Optimal loss plan log) run is = record {
+answer-run limits course problem (Optimal loss plan log) run is = record {
   feasible = λ e. absurd (omega (arith, e));
   otherwise = λ other. is;
 }
-answer-run limits schedule problem (Infeasible place) run is = record {
+answer-run limits course problem (Infeasible place) run is = record {
   feasible = λ e. absurd (omega (arith, e));
   otherwise = λ other. is;
 }
 
-told-run : (limits : Limits) (schedule : List ℕ) (problem : Problem) (solution : Solution) →
-    IsTold limits schedule problem solution → HandsOutRun (Solved solution)
-told-run limits schedule problem solution told =
-    answer-run limits schedule problem solution.answer solution.run told.run
+told-run : (limits : Limits) (course : Course) (problem : Problem) (solution : Solution) →
+    IsTold limits course problem solution → HandsOutRun (Solved solution)
+told-run limits course problem solution told =
+    answer-run limits course problem solution.answer solution.run told.run
 
 tells-run : (Is : Solution → Type 0) → ((solution : Solution) → Is solution →
     HandsOutRun (Solved solution)) → (a : Outcome) → Tells Solved Is a → HandsOutRun a
@@ -114,10 +116,10 @@ module _ (Is : Limits → Problem → Solution → Type 0)
       solution-otherwise limits read tells.0.answer (right limits read tells.0 tells.2)
       (subst (λ q. IsEnoughFor limits q) same enough) (sym (ap status_of tells.1) ∙ e)
 
--- those of an instance that stands alone, with an empty schedule
+-- those of an instance that stands alone
 module _ (Is : Limits → Problem → Solution → Type 0)
     (told : (limits : Limits) (problem : Problem) (solution : Solution) →
-    Is limits problem solution → IsTold limits [] problem solution) where
+    Is limits problem solution → IsTold limits (course_of limits) problem solution) where
   right : (limits : Limits) (problem : Problem) (solution : Solution) →
       Is limits problem solution → IsSolution limits problem solution.answer
   right limits problem solution is = (told limits problem solution is).solution
@@ -138,34 +140,38 @@ module _ (Is : Limits → Problem → Solution → Type 0)
         replies-hand-out (instance_alone job.p bytes)
         (λ problem. Tells Solved (Is job.limits problem)) a
         (λ read reads. tells-run (Is job.limits read) (λ solution is.
-        told-run job.limits [] read solution (told job.limits read solution is)) a);
+        told-run job.limits (course_of job.limits) read solution
+        (told job.limits read solution is)) a);
   }
 
 solve-is-command : IsCommand Solves
-solve-is-command = alone-is-command IsSolved (λ limits problem solution is. is.told)
+solve-is-command =
+    alone-is-command (λ limits. IsSolved limits (course_of limits))
+    (λ limits problem solution is. is.told)
 
 prove-is-command : IsCommand Proves
 prove-is-command =
-    alone-is-command (λ limits. IsProved limits []) (λ limits problem solution is. is.told)
+    alone-is-command (λ limits. IsProved limits (course_of limits))
+    (λ limits problem solution is. is.told)
 
 replay-is-command : IsCommand Replays
 replay-is-command = record {
   agree = λ job bytes. replies-agree (instance_with_schedule job.p job.limits.workers bytes)
-      (λ read. Tells Solved (IsProved job.limits read.1 read.0))
+      (λ read. Tells Solved (IsProved job.limits (Scheduled read.1) read.0))
       (with-schedule-decided job.p job.limits.workers bytes)
-      (λ read reads. answers-agree (λ limits. IsProved limits read.1)
+      (λ read reads. answers-agree (λ limits. IsProved limits (Scheduled read.1))
       (λ limits problem solution is. is.told.solution) job.limits read.0);
   with_enough = λ job bytes problem end a colours begins enough.
       replies-otherwise (instance_with_schedule job.p job.limits.workers bytes)
-      (λ read. Tells Solved (IsProved job.limits read.1 read.0)) a
-      (λ read reads. answer-otherwise (λ limits. IsProved limits read.1)
+      (λ read. Tells Solved (IsProved job.limits (Scheduled read.1) read.0)) a
+      (λ read reads. answer-otherwise (λ limits. IsProved limits (Scheduled read.1))
       (λ limits problem solution is. is.told.solution) job.limits problem read.0 a
       (front-is job.p bytes problem end reads.0 colours begins reads.1 ∙ sym reads.2.0) enough);
   hands_out = λ job bytes a.
       replies-hand-out (instance_with_schedule job.p job.limits.workers bytes)
-      (λ read. Tells Solved (IsProved job.limits read.1 read.0)) a
-      (λ read reads. tells-run (IsProved job.limits read.1 read.0) (λ solution is.
-      told-run job.limits read.1 read.0 solution is.told) a);
+      (λ read. Tells Solved (IsProved job.limits (Scheduled read.1) read.0)) a
+      (λ read reads. tells-run (IsProved job.limits (Scheduled read.1) read.0) (λ solution is.
+      told-run job.limits (Scheduled read.1) read.0 solution is.told) a);
 }
 
 -- ---- commands that judge an answer

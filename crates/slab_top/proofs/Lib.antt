@@ -5,6 +5,7 @@ mod Stopped
 mod EachCommand
 mod Rights
 mod Given
+mod Courses
 mod MoreBehind
 mod ReadBehind
 mod BothHalves

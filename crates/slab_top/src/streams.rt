@@ -11,11 +11,14 @@ ghost use Rattle.slab_top.specs.Agree.{MayEndWith};
 ghost use Rattle.slab_top.specs.Given.{IsServedWhole};
 ghost use Rattle.slab_top.specs.Run.{HasEnough, IsAnswered, IsStatus};
 
-use crate::run::run_plain;
+use crate::top::run;
 use mill_io::{StdSink, StdSource};
 use refute_log::Run;
 use std::alloc::Global;
 use std::io::{Read, Write};
+use std::sync::Wait;
+use std::thread::Threads;
+use steal_workers::Gate;
 
 /// What a run over a reader and a writer leaves: the two streams, which tell the bytes that passed,
 /// and the status that the program ends with.
@@ -31,13 +34,15 @@ pub struct RunEnd<R: Read, W: Write> {
 
 /// Serves what the words ask for, from any reader of std to any writer of std. No clause can say
 /// what the real input and output hold, so these speak of the bytes that the reads gave and the
-/// writes took. The statuses are those of [`run_plain`]. Nothing is flushed, so the writer is to be
-/// one that keeps no bytes back.
-pub fn run_streams<R: Read, W: Write>(
+/// writes took. Statuses, threads and the gate are those of [`run`]. Nothing is flushed, so the
+/// writer is to be one that keeps no bytes back.
+pub fn run_streams<H: Threads + Wait + Sync, R: Read, W: Write, G: Gate>(
+    rt: &H,
     alloc: Global,
     words: &[String],
     reader: R,
     writer: W,
+    gate: &G,
     kept: &mut Option<Run>,
 ) -> RunEnd<R, W>
     // Unless something failed, the status, all that the writer took and the run that is handed out
@@ -92,7 +97,7 @@ pub fn run_streams<R: Read, W: Write>(
 {
     let mut source = StdSource::new(reader);
     let mut sink = StdSink::new(writer);
-    let status = run_plain(alloc, words, &mut source, &mut sink, kept);
+    let status = run(rt, alloc, words, &mut source, &mut sink, gate, kept);
     RunEnd {
         source,
         sink,

@@ -1,20 +1,20 @@
-ghost use Rattle.std.specs.Prelude.{◌≡◌, ◌<◌, ◌≤◌, None, IfOk};
+//! Answers of a search on one thread, by workers that take turns.
+ghost use Rattle.std.specs.Prelude.{◌<◌, ◌≤◌, [], IfOk};
 ghost use Rattle.std.specs.List.{AllByRecursion};
 ghost use Rattle.answer_text.specs.Text.{Fits, most_orders};
-ghost use Rattle.answer_text.specs.declared.answer.Answer.TheVariants.{Optimal};
 ghost use Rattle.mill_model.specs.Heavy.{NoneHeavy};
 ghost use Rattle.mill_model.specs.Instance.{largest};
 ghost use Rattle.mill_model.specs.declared.limits.TheConstants.{MAX_NODES};
+ghost use Rattle.solve_answer.specs.Course.{Scheduled};
 ghost use Rattle.solve_answer.specs.Search.{HasLogAsAsked, HasSearched};
 ghost use Rattle.solve_answer.specs.Solved.{IsProved, IsSolved, IsTold, WhereOptimal};
 
+use crate::answered::{answer_of, infeasible};
 use crate::start::beginning_of;
-use answer_text::Answer;
 use core_replay::replay;
 use instance_facts::first_heavy;
-use mill_model::{Instance, Limits, OutOfMemory, Plan};
-use piece_merge::merge;
-use refute_log::{Log, Run};
+use mill_model::{Instance, Limits, OutOfMemory};
+use refute_log::Run;
 use reply_text::Solution;
 use std::alloc::Global;
 
@@ -24,7 +24,7 @@ pub fn solve(alloc: Global, instance: &Instance, limits: Limits) -> Result<Solut
     requires some { 1 ≤ limits.workers }
     requires few { limits.workers ≤ 64 }
     requires nodes { limits.nodes ≤ MAX_NODES }
-    ensures is { IfOk result (IsSolved limits instance.now) }
+    ensures is { IfOk result (IsSolved limits (Scheduled []) instance.now) }
     ensures told { IfOk result (λ solution.
         Fits (most_orders solution.answer) solution.answer) }
 {
@@ -43,7 +43,7 @@ pub fn prove(
     requires few { limits.workers ≤ 64 }
     requires nodes { limits.nodes ≤ MAX_NODES }
     requires numbers { AllByRecursion (λ number. number < limits.workers) schedule.now }
-    ensures is { IfOk result (IsProved limits schedule.now instance.now) }
+    ensures is { IfOk result (IsProved limits (Scheduled schedule.now) instance.now) }
     ensures told { IfOk result (λ solution.
         Fits (most_orders solution.answer) solution.answer) }
 {
@@ -62,47 +62,17 @@ fn solution_of(
     requires few { limits.workers ≤ 64 }
     requires nodes { limits.nodes ≤ MAX_NODES }
     requires numbers { AllByRecursion (λ number. number < limits.workers) schedule.now }
-    ensures is { IfOk result (IsTold limits schedule.now instance.now) }
+    ensures is { IfOk result (IsTold limits (Scheduled schedule.now) instance.now) }
     ensures log { IfOk result (λ solution. WhereOptimal
-        (HasLogAsAsked with_log limits schedule.now instance.now) solution.answer) }
+        (HasLogAsAsked with_log limits (Scheduled schedule.now) instance.now) solution.answer) }
     ensures told { IfOk result (λ solution.
         Fits (most_orders solution.answer) solution.answer) }
 {
     if let Some(order) = first_heavy(instance) {
-        return Ok(Solution {
-            answer: Answer::Infeasible { order },
-            run: None,
-        });
+        return Ok(infeasible(order));
     }
     let run = searched(alloc, instance, limits, schedule)?;
-    let loss = run.loss;
-    let plan = run.plan.tidy(alloc)?;
-    if !run.unclosed.is_empty() {
-        let spent = limits.nodes;
-        return Ok(Solution {
-            answer: Answer::Feasible { loss, plan, spent },
-            run: Some(run),
-        });
-    }
-    if !with_log {
-        return Ok(optimal(loss, plan, None));
-    }
-    let log = merge(alloc, instance.orders().len() as u16, run.pieces)?;
-    Ok(optimal(loss, plan, Some(log)))
-}
-
-// A best plan is answered, with its log if there is one.
-fn optimal(loss: u64, plan: Plan, refutation: Option<Log>) -> Solution
-    ensures { result ≡ record { answer = Optimal loss plan refutation; run = None } }
-{
-    Solution {
-        answer: Answer::Optimal {
-            loss,
-            plan,
-            refutation,
-        },
-        run: None,
-    }
+    answer_of(alloc, instance, limits, run, with_log)
 }
 
 // The run that searches an instance's tree.
@@ -117,7 +87,7 @@ fn searched(
     requires few { limits.workers ≤ 64 }
     requires nodes { limits.nodes ≤ MAX_NODES }
     requires numbers { AllByRecursion (λ number. number < limits.workers) schedule.now }
-    ensures { IfOk result (HasSearched limits schedule.now instance.now) }
+    ensures { IfOk result (HasSearched limits (Scheduled schedule.now) instance.now) }
 {
     let beginning = beginning_of(alloc, instance, limits.moves)?;
     let start = beginning.start;

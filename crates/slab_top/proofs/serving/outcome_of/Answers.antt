@@ -9,7 +9,7 @@ use Rattle.slab_top.specs.Served.{Serves, IsServed}
 use Rattle.slab_top.specs.Given.{HasAnswered}
 use Rattle.slab_top.proofs.Rights.{served-whole, served-long}
 use Rattle.slab_top.proofs.Given.{answered-whole, answered-long}
-use Rattle.slab_top.proofs.run.outcome_of.Goals as goal
+use Rattle.slab_top.proofs.serving.outcome_of.Goals as goal
 
 pub returns-in-Err-TooLong-clause-served : goal.returns-in-Err-TooLong-clause-served
 returns-in-Err-TooLong-clause-served g c =

@@ -14,7 +14,17 @@ use Rattle.slab_top.proofs.Replying.{agree-status, outcome-own}
 use Rattle.slab_top.proofs.Rights.{right-agree, enough-served, ended-for, wrong-agree, unread-for}
 use Rattle.slab_top.proofs.Rights.{served-run, none-kept}
 use Rattle.slab_top.proofs.Given.{served-whole-of, served-none, enough-given}
-use Rattle.slab_top.proofs.run.run_plain.Goals as goal
+use Rattle.slab_top.proofs.serving.serve_words.Goals as goal
+
+-- a searcher that has threads where the words need them has them where their job does
+
+pub outcome_of-requires-clause-threads : goal.outcome_of-requires-clause-threads
+outcome_of-requires-clause-threads g c needs =
+    c.requires.threads (record {
+      job = c.in-Ok.job;
+      asked = c.in-Ok.ensures.job;
+      needs = needs;
+    })
 
 pub write_out-status-requires : goal.write_out-status-requires
 write_out-status-requires g c = record {

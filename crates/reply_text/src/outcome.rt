@@ -2,8 +2,8 @@ ghost use Rattle.std.specs.Prelude.{◌≡◌, IfOk};
 ghost use Rattle.reply_text.specs.Outcome.{run_of, status_of, status_of_answer, text_of, IsToTell};
 
 use crate::{
-    ACCEPTED, FEASIBLE, INFEASIBLE, Judgement, OPTIMAL, REFUSED, REJECTED, Refusal, Reply, Solution,
-    Summary,
+    ACCEPTED, FEASIBLE, INFEASIBLE, Judgement, OPTIMAL, REFUSED, REJECTED, Refusal, Reply,
+    Solution, Summary,
 };
 use answer_text::{Answer, print_answer};
 use mill_model::OutOfMemory;

@@ -1,6 +1,6 @@
 //! Serves words: reads what they ask to be read, has it answered by a searcher, and writes the answer
 //! out. What `run` and `run_plain` promise is proved here, for each searcher.
-ghost use Rattle.std.specs.Prelude.{◌≡◌, ◌≢◌, ◌≤◌, ◌++◌, ℕ, true, List, Err, None, length, IfOk};
+ghost use Rattle.std.specs.Prelude.{◌≡◌, ◌≢◌, ◌++◌, ℕ, true, List, Err, None, IfOk};
 ghost use Rattle.std.specs.Prelude.{IfSome, IsErrOf, IsSome, OnOk};
 ghost use Rattle.std.specs.Io.KnownBytes.{Appends, IsAtEnd};
 ghost use Rattle.mill_io.specs.Causes.{Rose};
@@ -11,10 +11,13 @@ ghost use Rattle.reply_text.specs.Outcome as told;
 ghost use Rattle.reply_text.specs.Outcome.{IsToTell};
 ghost use Rattle.reply_text.specs.declared.status.TheConstants.{FEASIBLE, READ_FAULT, WRITE_FAULT};
 ghost use Rattle.reply_text.specs.declared.status.TheConstants.{OUT_OF_MEMORY};
-ghost use Rattle.slab_top.specs.Served.{Output, IsRight, IsServed, run_of, status_of, text_of};
+ghost use Rattle.slab_top.specs.Input.{ReadsWhole};
+ghost use Rattle.slab_top.specs.Served.{Output, IsRight, IsServed, Serves};
+ghost use Rattle.slab_top.specs.Served.{run_of, status_of, text_of};
 ghost use Rattle.slab_top.specs.Agree.{Agree, MayEndWith};
 ghost use Rattle.slab_top.specs.Given.{HasAnswered, IsServedWhole};
-ghost use Rattle.slab_top.specs.Run.{HasEnough, IsAnswered, IsOwnStatus, IsStatus, IsToBeRead};
+ghost use Rattle.slab_top.specs.Run.{AskForNoInput, HasEnough, IsAnswered, IsOwnStatus, IsStatus};
+ghost use Rattle.slab_top.specs.Run.{IsToBeRead};
 ghost use Rattle.slab_top.specs.Threads.{NeedThreads, NeedsThreads};
 
 use crate::commands::serve;
@@ -46,7 +49,7 @@ fn outcome_of<V: Searcher, S: Source>(
     ensures served { IfOk result (IsServed job (S.left source.old)) }
     ensures told { IfOk result IsToTell }
     ensures ended { OnOk result (IfSome (S.left source.old) (λ input.
-        length input ≤ limit_of job.command → IsAtEnd (S.left source.new))) }
+        ReadsWhole (limit_of job.command) input → IsAtEnd (S.left source.new))) }
     ensures given { IfOk result (HasAnswered job (S.given source.old) (S.given source.new)
         (S.ended source.new)) }
     ensures lost { GivesLost (S.left source.old) (S.left source.new)
@@ -54,16 +57,34 @@ fn outcome_of<V: Searcher, S: Source>(
     ensures fault { IsErrOf result Failure.ReadFault
         → Rose (S.faults source.old) (S.faults source.new) }
     ensures kept { result ≢ Err Failure.ReadFault → S.faults source.new ≡ S.faults source.old }
+    ensures unread { limit_of job.command ≡ None → source.new ≡ source.old }
 {
-    // A command that reads nothing goes here, before the reading.
-    let limit = job.command.limit();
+    let Some(limit) = job.command.limit() else {
+        return answered(searcher, alloc, job, &[]);
+    };
     let input = match read_all(alloc, source, limit) {
         Ok(input) => input,
         Err(ReadError::TooLong) => return Ok(Outcome::Refused(Refusal::TooLong { limit })),
         Err(ReadError::ReadFault) => return Err(Failure::ReadFault),
         Err(ReadError::OutOfMemory) => return Err(Failure::OutOfMemory),
     };
-    match serve(searcher, alloc, job, &input) {
+    answered(searcher, alloc, job, &input)
+}
+
+// What a job answers to what it reads; a refusal is an answer too.
+fn answered<V: Searcher>(
+    searcher: &V,
+    alloc: Global,
+    job: Job,
+    input: &[u8],
+) -> Result<Outcome, Failure>
+    requires in_range { IsInRange job }
+    requires threads { NeedsThreads job → V.has_threads ≡ true }
+    ensures served { IfOk result (Serves job.command job input.now) }
+    ensures told { IfOk result IsToTell }
+    ensures fault { result ≢ Err Failure.ReadFault }
+{
+    match serve(searcher, alloc, job, input) {
         Ok(outcome) => Ok(outcome),
         Err(Stop::Refused(why)) => Ok(Outcome::Refused(why)),
         Err(Stop::OutOfMemory) => Err(Failure::OutOfMemory),
@@ -146,7 +167,7 @@ pub fn serve_words<V: Searcher, S: Source, K: Sink>(
         (K.held sink.old) (K.held sink.new) }
     ensures ended { IsAnswered result → IfSome (S.left source.old) (λ input.
         IsToBeRead (texts words.now) input → IsAtEnd (S.left source.new)) }
-    ensures unread { ((job : Job) → AskFor (texts words.now) job → ⊥) → source.new ≡ source.old }
+    ensures unread { AskForNoInput (texts words.now) → source.new ≡ source.old }
     ensures known { IsStatus result }
     ensures read_fault { result ≡ READ_FAULT → Rose (S.faults source.old) (S.faults source.new) }
     ensures no_read_fault { result ≢ READ_FAULT → S.faults source.new ≡ S.faults source.old }

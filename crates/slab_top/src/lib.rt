@@ -4,6 +4,7 @@
 mod commands;
 mod front;
 mod laws;
+mod plain;
 mod searcher;
 mod serving;
 mod streams;
@@ -11,6 +12,7 @@ mod top;
 
 pub use job_words::{Command, Job, Usage, read_words};
 pub use laws::{answer_is_checked, proved_is_verified};
+pub use plain::run_plain;
 pub use steal_workers::{Gate, OpenGate};
 pub use streams::{RunEnd, run_streams};
-pub use top::{needs_threads, run, run_plain};
+pub use top::{needs_threads, run};

@@ -49,6 +49,7 @@ pub trait Searcher {
 }
 
 /// The thread of the caller, in which one worker searches.
+#[derive(Drop)]
 pub struct OneThread;
 
 impl Searcher for OneThread {
@@ -74,6 +75,7 @@ impl Searcher for OneThread {
 }
 
 /// Threads, in which the workers run where there are more than one.
+#[derive(Drop)]
 pub struct InThreads<'a, R: Threads + Wait + Sync, G: Gate> {
     pub rt: &'a R,
     pub gate: &'a G,

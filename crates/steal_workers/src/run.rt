@@ -18,6 +18,7 @@ pub trait Gate: Sync {
 }
 
 /// A gate that holds no worker.
+#[derive(Drop)]
 pub struct OpenGate;
 
 impl Gate for OpenGate {

@@ -1,9 +1,9 @@
-ghost use Rattle.std.specs.Prelude.{◌≡◌, ◌++◌, OnOk};
+ghost use Rattle.std.specs.Prelude.{◌≡◌, ◌++◌, ◌∷◌, [], OnOk};
 ghost use Rattle.line_text.specs.Lines.{text_of};
-ghost use Rattle.reply_text.specs.Summary.{lines_of_ending, lines_of_summary, run_behind};
-ghost use Rattle.reply_text.specs.Summary.{status_of_ending};
+ghost use Rattle.reply_text.specs.Summary.{first_line, lines_of_ending, lines_of_summary};
+ghost use Rattle.reply_text.specs.Summary.{run_behind, status_of_ending};
 
-use crate::line::{push_name, push_named};
+use crate::line::{push_both, push_name, push_named};
 use crate::{FEASIBLE, OPTIMAL};
 use mill_model::OutOfMemory;
 use refute_log::Run;
@@ -73,10 +73,18 @@ impl Summary {
         ensures { OnOk result (text.new.items
             ≡ text.old.items ++ text_of (lines_of_summary self.now)) }
     {
-        push_named(text, b"drill seed ", u64::from(self.seed))?;
-        push_named(text, b" orders ", u64::from(self.orders))?;
-        push_named(text, b" weight ", self.weight)?;
-        push_name(text, b"\n")?;
+        self.push_first(text)?;
         self.ending.push_lines(text)
+    }
+
+    // Appends its first line.
+    fn push_first(&self, text: &mut Vec<u8>) -> Result<(), OutOfMemory>
+        ensures { OnOk result (text.new.items
+            ≡ text.old.items ++ (first_line self.now ++ 10 ∷ [])) }
+    {
+        let (seed, orders) = (u64::from(self.seed), u64::from(self.orders));
+        push_both(text, b"drill seed ", seed, b" orders ", orders)?;
+        push_named(text, b" weight ", self.weight)?;
+        push_name(text, b"\n")
     }
 }

@@ -17,6 +17,7 @@ use Rattle.order_symmetry.specs.Ranked.{RankedOrders, IsRanked}
 use Rattle.refute_log.specs.Fits.{fits}
 use Rattle.refute_log.specs.declared.piece.Run.{Run}
 use Rattle.search_step.specs.Promise.{IsRun, IsThrifty, records_of}
+use Rattle.search_step.specs.Resumable.{GoesOnFrom, start_of}
 use Rattle.search_step.specs.Serving.{IsPathOf}
 use Rattle.search_step.specs.Steps.{FitsMill, task_at}
 use Rattle.core_machine.specs.Core.{Core, Rounds, after_schedule, first_state, pieces_of}
@@ -31,7 +32,7 @@ use Rattle.core_machine.proofs.Promise.{pieces-thrifty}
 use Rattle.core_machine.proofs.Runs.{rounds-count, schedule-count}
 use Rattle.core_machine.proofs.Starts.{steady-first, workers-count}
 use Rattle.core_replay.specs.Crew.{CrewState, IsReady, SameRun, crew_with}
-use Rattle.core_replay.specs.Replayed.{GoesOnFrom, IsLeftBy, start_of}
+use Rattle.core_replay.specs.Replayed.{IsLeftBy}
 use Rattle.core_replay.specs.Resumed.{CanResume, IsResumed}
 use Rattle.core_replay.proofs.Fits.{new-fit, run-fits}
 

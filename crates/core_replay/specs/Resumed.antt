@@ -6,10 +6,10 @@ use Rattle.mill_model.specs.declared.limits.TheConstants.{MAX_NODES}
 use Rattle.order_symmetry.specs.Ranked.{RankedOrders, orders_of}
 use Rattle.refute_log.specs.declared.piece.Run.{Run}
 use Rattle.search_step.specs.Promise.{records_of}
+use Rattle.search_step.specs.Resumable.{IsResumable, start_of}
 use Rattle.core_machine.specs.Core.{Core, Rounds, after_schedule, first_state}
 use Rattle.core_machine.specs.Core.{pieces_of, unclosed_of}
 use Rattle.core_machine.specs.Kept.{best_of}
-use Rattle.core_replay.specs.Replayed.{IsResumable, start_of}
 
 -- what workers need that go on from a run
 pub record CanResume (ranked : RankedOrders) (charges : ChargeTable) (nodes workers : ℕ)

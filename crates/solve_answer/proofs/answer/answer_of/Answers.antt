@@ -5,7 +5,7 @@ use Rattle.solve_answer.proofs.LossLimit.{numbers-told}
 use Rattle.solve_answer.proofs.Answered.{stopped-told, best-told, log-refutes}
 use Rattle.solve_answer.proofs.Answered.{told-fits, records-fit}
 use Rattle.solve_answer.proofs.Answered.{none-by-length, some-by-length}
-use Rattle.solve_answer.proofs.answered.answer_of.Goals as goal
+use Rattle.solve_answer.proofs.answer.answer_of.Goals as goal
 
 -- the plan that was found has numbers below its length
 

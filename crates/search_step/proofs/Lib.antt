@@ -16,3 +16,4 @@ pub mod OneMoreRecord
 pub mod HonestClosing
 pub mod StaysHonest
 pub mod StaysFit
+pub mod GoingOn

@@ -1,5 +1,5 @@
 -- The instance that is made has no heavy order, so its search has an ending.
-use Rattle.std.proofs.Common.{refl, subst}
+use Rattle.std.proofs.Common.{◌≡◌, refl, subst}
 use Rattle.mill_model.specs.Heavy.{NoneHeavy}
 use Rattle.mill_model.specs.Instance.{largest}
 use Rattle.mill_model.specs.Slab.{load}

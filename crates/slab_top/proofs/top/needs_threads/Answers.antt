@@ -1,5 +1,5 @@
 -- Words need threads where the one job that they ask for does.
-use Rattle.std.proofs.Common.{◌≡◌, ◌<◌, ◌∙◌, sym, subst, arith}
+use Rattle.std.proofs.Common.{◌≡◌, ◌<◌, ◌∙◌, true, false, lt-ltb, ltb-true, sym, subst}
 use Rattle.job_words.specs.declared.job.Job.{Job}
 use Rattle.slab_top.proofs.top.needs_threads.Goals as goal
 
@@ -10,18 +10,17 @@ returns-then-lets_run c = (
     asked = c.in-Ok.ensures.job;
     needs = record {
       runs = sym c.lets_run.ensures ∙ c.if-lets_run.true;
-      more = omega (arith, more);
+      more = ltb-true 1 c.in-Ok.job.limits.workers more;
     };
   },
   λ need. (let same : need.job ≡ c.in-Ok.job =
       (let asked = c.in-Ok.ensures.asked need.job need.asked in cc) in
-      let more : 1 < c.in-Ok.job.limits.workers =
-      subst (λ (job : Job). 1 < job.limits.workers) same need.needs.more in
-      omega (arith, more)),
+      lt-ltb 1 c.in-Ok.job.limits.workers
+      (subst (λ (job : Job). 1 < job.limits.workers) same need.needs.more)),
 )
 
 pub returns-in-Err : goal.returns-in-Err
 returns-in-Err c = (
-  λ e. absurd (omega (arith, e)),
+  λ e. (let clash : false ≡ true = e in absurd (cc)),
   λ need. (let asked = c.in-Err.ensures.asked need.job need.asked in absurd (cc)),
 )

@@ -123,10 +123,10 @@ module _ (ranked : RankedOrders) (charges : ChargeTable) (workers number : ℕ) 
       StepAt running_did ranked charges workers number phase w h turn w' h' → Leaves
   leaves-at Resting n (stands, (hears, is), becomes) =
       same-seat (ap (λ (g : Running). g.loss_seat) is) (became becomes.0 (rested-known w stands))
-  leaves-at Taking n (path, (own, pops, is), tree, becomes) =
+  leaves-at Taking n (path, (pops, is), tree, becomes) =
       same-seat (ap (λ (g : Running). g.loss_seat) is)
       (became becomes.0 (took-known w workers path))
-  leaves-at Stealing n (path, (thieves, steals, is), tree, becomes) =
+  leaves-at Stealing n (path, (steals, is), tree, becomes) =
       same-seat (ap (λ (g : Running). g.loss_seat) is)
       (became becomes.0 (stole-known w workers number path))
   leaves-at Holding n (draw, (answers, is), becomes) =

@@ -78,9 +78,20 @@ fn turn<'a, G: Gate>(gate: &G, worker: &mut Worker<'a>, hand: &mut RunningHand<'
     ensures orders { worker.new.ranked ≡ worker.old.ranked }
     ensures charges { worker.new.charges ≡ worker.old.charges }
 {
-    let turn = worker.step(hand);
+    let turn = step(worker, hand);
     if let (Turn::Drew, Some(path)) = (turn, worker.held()) {
         gate.pass(hand.number(), path);
     }
     turn
+}
+
+fn step<'a>(worker: &mut Worker<'a>, hand: &mut RunningHand<'a>) -> Turn
+    requires may { MayGoOn worker.old hand.old }
+    ensures may { MayGoOn worker.new hand.new }
+    ensures work { StaysAtWork worker.old hand.old worker.new hand.new }
+    ensures calm { result ≡ Turn.Stopped → is_calm worker.new.parts.phase ≡ true }
+    ensures orders { worker.new.ranked ≡ worker.old.ranked }
+    ensures charges { worker.new.charges ≡ worker.old.charges }
+{
+    worker.step(hand)
 }

@@ -160,7 +160,7 @@ module _ (start : ℕ) (first : Running) (w : WorkerParts) (h : Running)
   }
 
 -- a worker that goes by the same, with its parts
-same-worker : (w w' : WorkerParts) → w'.ranked ≡ w.ranked → w'.charges ≡ w.charges →
+pub same-worker : (w w' : WorkerParts) → w'.ranked ≡ w.ranked → w'.charges ≡ w.charges →
     w'.number ≡ w.number → w'.workers ≡ w.workers → record w { parts = w'.parts } ≡ w'
 same-worker w w' ranked charges number workers =
     sym (ap (λ r. record w' { ranked = r }) ranked
@@ -177,3 +177,8 @@ pub stays-at-work : (w w' : WorkerParts) (h h' : Running) (turn : Turn) →
 stays-at-work w w' h h' turn step keeps honest ranked charges number workers start first at =
     subst (λ v. IsAtWork start first v h') (same-worker w w' ranked charges number workers)
     (a-step-keeps-it start first w h at turn w'.parts h' step keeps honest)
+
+-- over two runs of steps, one after the other
+pub still-at-work : (w v u : WorkerParts) (h g f : Running) → StaysAtWork w h v g →
+    StaysAtWork v g u f → StaysAtWork w h u f
+still-at-work w v u h g f once again start first at = again start first (once start first at)

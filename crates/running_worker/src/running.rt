@@ -1,5 +1,5 @@
 //! A worker that runs to its end.
-ghost use Rattle.std.specs.Prelude.{◌≡◌, ◌≤◌, true, All, IfOk, OnOk};
+ghost use Rattle.std.specs.Prelude.{◌≡◌, ◌≤◌, true, All, IfOk, OnErr, OnOk};
 ghost use Rattle.mill_model.specs.Charges.{Reaches};
 ghost use Rattle.order_symmetry.specs.Ranked.{orders_of};
 ghost use Rattle.search_step.specs.Worker.{WorkerParts};
@@ -44,7 +44,7 @@ pub fn work<'a, R: Wait, G: Gate>(
     Ok(hand.end(worker.finish()))
 }
 
-// Steps until the worker answers that it stopped.
+// Steps until the worker answers that it stopped. Where it wants memory, it calls a halt.
 fn run<'a, R: Wait, G: Gate>(
     rt: &R,
     gate: &G,
@@ -54,6 +54,7 @@ fn run<'a, R: Wait, G: Gate>(
     requires may { MayGoOn worker.old hand.old }
     ensures work { OnOk result (StaysAtWork worker.old hand.old worker.new hand.new) }
     ensures calm { OnOk result (is_calm worker.new.parts.phase ≡ true) }
+    ensures halts { OnErr result (hand.new.ticket_seat.mark ≡ true) }
     ensures orders { worker.new.ranked ≡ worker.old.ranked }
     ensures charges { worker.new.charges ≡ worker.old.charges }
 {

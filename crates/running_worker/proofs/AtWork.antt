@@ -1,14 +1,9 @@
 -- A step keeps a worker at work.
-use Rattle.std.proofs.Common.{ℕ, ◌+◌, ◌≤◌, ◌≡◌, ◌≢◌, ◌⊎◌, inl, inr, true, nat_lt, List, [], ◌∷◌}
-use Rattle.std.proofs.Common.{◌++◌, length, All, Option, Some, None, count_by, refl, sym, ap, ◌∙◌}
+use Rattle.std.proofs.Common.{ℕ, ◌+◌, ◌≤◌, ◌≡◌, ◌≢◌, ◌⊎◌, inl, inr, nat_lt, List, []}
+use Rattle.std.proofs.Common.{All, count_by, refl, sym, ap, ◌∙◌}
 use Rattle.std.proofs.Common.{subst, arith}
-use Rattle.std.specs.List.{AllByRecursion}
 use Rattle.std.proofs.lemmas.List.Elements.{All-push, All-weaker}
 use Rattle.list_laws.specs.Sets.{times, same_list}
-use Rattle.mill_model.specs.Charges.{ChargeTable}
-use Rattle.mill_model.specs.declared.plan.Start.{Start}
-use Rattle.order_symmetry.specs.Ranked.{RankedOrders}
-use Rattle.refute_log.specs.Fits.{fits}
 use Rattle.search_step.specs.Accounts.{Keeps, came, tickets, went}
 use Rattle.search_step.specs.Honest.{KeepsHonest}
 use Rattle.search_step.specs.Parts.{Parts}

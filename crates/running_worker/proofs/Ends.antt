@@ -1,20 +1,19 @@
 -- The worker of a job is at work before its first step, and what it leaves after its last one is
 -- what the job has worked.
-use Rattle.std.proofs.Common.{ℕ, ◌+◌, ◌<◌, ◌≤◌, ◌≡◌, ◌≢◌, true, nat_lt, List, [], ◌∷◌, ◌++◌, length}
-use Rattle.std.proofs.Common.{All, Option, Some, None, count_by, refl, sym, ap, ◌∙◌, subst, arith}
+use Rattle.std.proofs.Common.{ℕ, ◌<◌, ◌≡◌, ◌≢◌, true, nat_lt, List, [], ◌∷◌, length}
+use Rattle.std.proofs.Common.{All, Some, None, count_by, refl, sym, ap, ◌∙◌, subst, arith}
 use Rattle.std.specs.List.{AllByRecursion}
 use Rattle.std.proofs.lemmas.List.Elements.{All-nil}
 use Rattle.list_laws.specs.Sets.{times, same_list}
 use Rattle.mill_model.specs.Charges.{ChargeTable}
 use Rattle.order_symmetry.specs.Ranked.{RankedOrders}
 use Rattle.search_step.specs.Honest.{IsHonest}
-use Rattle.search_step.specs.Moves.{after, new_worker}
+use Rattle.search_step.specs.Moves.{new_worker}
 use Rattle.search_step.specs.Parts.{Parts}
-use Rattle.search_step.specs.Steps.{FitsMill, IsSafe, task_at}
-use Rattle.search_step.specs.Worker.{IsWorker, WorkerParts}
+use Rattle.search_step.specs.Steps.{FitsMill, IsSafe}
+use Rattle.search_step.specs.Worker.{WorkerParts}
 use Rattle.search_step.specs.declared.parts.Phase.{Phase}
 use Rattle.search_step.specs.declared.parts.Phase.TheVariants.{Publishing}
-use Rattle.search_step.specs.declared.worker.WorkerEnd.{WorkerEnd}
 use Rattle.search_step.proofs.Branches.{after-below, after-other}
 use Rattle.core_machine.specs.Ends.{is_calm}
 use Rattle.shared_words.specs.Best.{LossSeat}

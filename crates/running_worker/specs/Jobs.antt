@@ -1,5 +1,5 @@
 -- What a worker of a round begins with.
-use Rattle.std.specs.Prelude.{ℕ, ◌≡◌, ◌<◌, ◌≤◌, ◌+◌, [], length}
+use Rattle.std.specs.Prelude.{◌≡◌, ◌<◌, ◌≤◌, ◌+◌, [], length}
 use Rattle.std.specs.List.{AllByRecursion}
 use Rattle.order_symmetry.specs.Ranked.{RankedOrders}
 use Rattle.shared_words.specs.Best.{IsLossSeatOf}

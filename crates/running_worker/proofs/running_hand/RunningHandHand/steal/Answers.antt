@@ -1,4 +1,4 @@
-use Rattle.std.proofs.Common.{arith, refl, rules, set, subst}
+use Rattle.std.proofs.Common.{refl, rules, set, subst}
 use Rattle.running_worker.specs.Running.{Running, Steals, place_of}
 use Rattle.running_worker.proofs.Calls.{tries}
 use Rattle.running_worker.proofs.running_hand.RunningHandHand.steal.Goals as goal

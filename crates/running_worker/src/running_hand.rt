@@ -108,7 +108,7 @@ impl<'a> RunningHand<'a> {
         self.number
     }
 
-    // The path that was taken last is closed or its worker has ended, and is open no more.
+    // The worker rests again: the path that it took last is open no more.
     fn settle(&mut self)
         ensures { self.new ≡ self.old }
     {

@@ -5,10 +5,13 @@ use Rattle.std.specs.declared.alloc.Global.{Global}
 use Rattle.std.specs.declared.vec.Vec.{Vec}
 use Rattle.atomic_blocks.specs.Lent.{RowsId}
 use Rattle.list_laws.specs.Sets.{times, same_list}
-use Rattle.core_machine.specs.Counts.{sum_of}
 use Rattle.order_symmetry.specs.Ranked.{RankedOrders}
 use Rattle.steal_deques.specs.Deque.{DequeOwner, DequeThief}
 use Rattle.steal_workers.specs.declared.lending.Dealt.{Dealt}
+
+abbrev pub sum_of : {X : Type 0} → (X → ℕ) → List X → ℕ
+sum_of f [] = 0
+sum_of f (x ∷ xs) = f x + sum_of f xs
 
 -- a list without what stands at a place
 abbrev pub all_but : {X : Type 0} → ℕ → List X → List X

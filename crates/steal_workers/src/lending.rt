@@ -1,12 +1,10 @@
 //! The deques of a round. Each worker owns one, and has a thief of every other one.
 ghost use Rattle.std.specs.Prelude.{◌≡◌, ◌≢◌, ◌<◌, ◌+◌, ◌++◌, ◌∷◌, [], All, IfOk, OnOk};
 ghost use Rattle.std.specs.Prelude.{get_or, length, map, replicate, set, vec_len};
-ghost use Rattle.std.specs.List.{AllByRecursion};
-ghost use Rattle.search_step.specs.Serving.{IsPathOf};
 ghost use Rattle.steal_workers.specs.Deques.{AreDealt, IsNewOwner, IsUnlent, DealsOne};
 ghost use Rattle.steal_workers.specs.Deques.{hands_in, new_thief};
 
-use mill_model::{OutOfMemory, Path};
+use mill_model::OutOfMemory;
 use order_symmetry::Ranked;
 use std::alloc::Global;
 use steal_deques::{Own, Thief, deque};

@@ -1,5 +1,5 @@
 -- The deques of a round: who owns one, who has a thief of one, and what they took.
-use Rattle.std.specs.Prelude.{◌≡◌, ◌≢◌, ◌<◌, ◌+◌, ℕ, zero, suc, List, [], ◌∷◌, ◌++◌, All, cond}
+use Rattle.std.specs.Prelude.{◌≡◌, ◌≢◌, ◌<◌, ◌≤◌, ◌+◌, ◌-◌, ℕ, zero, suc, List, [], ◌∷◌, ◌++◌, All, cond}
 use Rattle.std.specs.Prelude.{get_or, length, ltb, map, vec_len}
 use Rattle.std.specs.declared.alloc.Global.{Global}
 use Rattle.std.specs.declared.vec.Vec.{Vec}
@@ -41,18 +41,23 @@ pub record IsUnlent (workers : ℕ) (own : DequeOwner) : Type 0 where
 
 -- a deque of which all shares but the owner's are lent, and which is still empty
 pub record IsNewOwner (ranked : RankedOrders) (workers : ℕ) (own : DequeOwner) : Type 0 where
-  pub ranked : own.ranked ≡ ranked
+  pub orders : own.ranked ≡ ranked
   pub all : own.all ≡ workers
   pub shares : own.shares ≡ 1
   pub pushed : own.pushed ≡ []
   pub popped : own.popped ≡ []
   pub stolen : own.stolen ≡ []
 
--- each worker but one gets one further thief
-pub record DealsOne (number : ℕ) (thief : DequeThief) (before after : Hands) : Type 0 where
+-- of the workers below a number, how many aren't the owner
+abbrev pub others_below : ℕ → ℕ → ℕ
+others_below number below = cond (ltb number below) (below - 1) below
+
+-- of the workers below a number, each but the owner gets one further thief
+pub record DealsOne (number below : ℕ) (thief : DequeThief) (before after : Hands) : Type 0 where
   pub count : length after ≡ length before
-  pub others : (i : ℕ) → i < length before → i ≢ number →
+  pub others : (i : ℕ) → i < below → i ≢ number →
       hand_of after i ≡ hand_of before i ++ thief ∷ []
+  pub later : (i : ℕ) → below ≤ i → hand_of after i ≡ hand_of before i
   pub own : hand_of after number ≡ hand_of before number
 
 -- each worker has a new thief of every deque but its own
@@ -106,26 +111,27 @@ all_pushed path = sum_of (λ own. times same_list path own.pushed)
 abbrev pub all_popped : List ℕ → List DequeOwner → ℕ
 all_popped path = sum_of (λ own. times same_list path own.popped)
 
--- each worker but one gave back its last thief
-pub record GivesOne (number : ℕ) (before after : Hands) : Type 0 where
+-- of the workers below a number, each but the owner gave back its last thief
+pub record GivesOne (number below : ℕ) (before after : Hands) : Type 0 where
   pub count : length after ≡ length before
-  pub others : (i : ℕ) → i < length before → i ≢ number →
+  pub others : (i : ℕ) → i < below → i ≢ number →
       (thief : DequeThief) × (hand_of before i ≡ hand_of after i ++ thief ∷ [])
+  pub later : (i : ℕ) → below ≤ i → hand_of after i ≡ hand_of before i
   pub own : hand_of after number ≡ hand_of before number
 
--- the owner of a deque has all shares again, and what its thieves stole
-pub record AreBack (own own' : DequeOwner) (number : ℕ) (before after : Hands) : Type 0 where
-  pub shares : own'.shares ≡ own'.all
-  pub pushed : own'.pushed ≡ own.pushed
-  pub popped : own'.popped ≡ own.popped
-  pub given : GivesOne number before after
+-- the owner of a deque has the shares of these thieves again, and what they stole
+pub record AreBack (own own' : DequeOwner) (number below : ℕ) (before after : Hands)
+    : Type 0 where
+  pub same : own' ≡ record own { shares = own'.shares; stolen = own'.stolen }
+  pub shares : own'.shares ≡ 1 + others_below number below
+  pub given : GivesOne number below before after
   pub stolen : (x : List ℕ) →
       times same_list x own'.stolen + all_stolen x after ≡ all_stolen x before
 
 -- a deque has ended, and what it still held is appended to some paths
 pub record EndsOne (own : DequeOwner) (number : ℕ) (before after : Hands)
     (left left' : List (List ℕ)) : Type 0 where
-  pub given : GivesOne number before after
+  pub given : GivesOne number (length before) before after
   pub paths : (x : List ℕ) →
       times same_list x left + times same_list x own.pushed + all_stolen x after
       ≡ times same_list x left' + times same_list x own.popped + all_stolen x before

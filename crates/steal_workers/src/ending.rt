@@ -1,7 +1,7 @@
 //! The end of a round's deques: all thieves go back to their owners, and what a deque still holds
 //! is taken out.
-ghost use Rattle.std.specs.Prelude.{◌≡◌, ◌<◌, ◌+◌, ◌++◌, ℕ, List, All, OnOk, get_or, length, map};
-ghost use Rattle.std.specs.Prelude.{option_to_list, set, vec_len};
+ghost use Rattle.std.specs.Prelude.{◌≡◌, ◌<◌, ◌+◌, ◌++◌, ◌∷◌, [], ℕ, List, All, OnOk, length, set};
+ghost use Rattle.std.specs.Prelude.{vec_len};
 ghost use Rattle.list_laws.specs.Sets.{times, same_list};
 ghost use Rattle.steal_workers.specs.Deques.{AreBack, AreOfAll, EndsOne, IsLastOfAll, IsLent};
 ghost use Rattle.steal_workers.specs.Deques.{all_popped, all_pushed, all_stolen, hand_of, hands_in};
@@ -56,24 +56,27 @@ fn take_all_back(own: &mut Own, number: usize, hands: &mut Vec<Vec<Thief>>)
     requires number { number < length (hands_in hands.old.items) }
     requires lent { IsLent (length (hands_in hands.old.items)) own.old }
     requires thieves { IsLastOfAll number own.old (hands_in hands.old.items) }
-    ensures { AreBack own.old own.new number (hands_in hands.old.items) (hands_in hands.new.items) }
+    ensures { AreBack own.old own.new number (length hands.old.items) (hands_in hands.old.items)
+        (hands_in hands.new.items) }
 {
     for taker in 0..hands.len() {
         if taker != number {
-            if let Some(thief) = take_last(hands, taker) {
-                own.take_back(thief);
-            }
+            own.take_back(take_last(hands, taker));
         }
     }
 }
 
 // Takes the last thief of one worker.
-fn take_last(hands: &mut Vec<Vec<Thief>>, taker: usize) -> Option<Thief>
-    requires { taker < vec_len hands.old }
+fn take_last(hands: &mut Vec<Vec<Thief>>, taker: usize) -> Thief
+    requires within { taker < vec_len hands.old }
+    requires some { 0 < length (hand_of (hands_in hands.old.items) taker) }
     ensures last { hand_of (hands_in hands.old.items) taker
-        ≡ hand_of (hands_in hands.new.items) taker ++ option_to_list result }
+        ≡ hand_of (hands_in hands.new.items) taker ++ result ∷ [] }
     ensures others { hands_in hands.new.items ≡ set (hands_in hands.old.items) taker
         (hand_of (hands_in hands.new.items) taker) }
 {
-    hands[taker].pop()
+    let Some(thief) = hands[taker].pop() else {
+        unreachable!()
+    };
+    thief
 }

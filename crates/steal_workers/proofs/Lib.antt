@@ -1,3 +1,4 @@
 pub mod Hands
 pub mod Deals
 pub mod Backs
+pub mod Seatings

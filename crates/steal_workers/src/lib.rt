@@ -4,3 +4,4 @@
 
 mod ending;
 mod lending;
+mod seats;

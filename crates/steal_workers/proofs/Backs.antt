@@ -12,7 +12,9 @@ use Rattle.steal_deques.specs.Deque.{Balances, DequeOwner, DequeThief}
 use Rattle.steal_workers.specs.Deques.{AreBack, AreOfAll, EndsOne, GivesOne, Hands, Home}
 use Rattle.steal_workers.specs.Deques.{IsLastOfAll, IsLent}
 use Rattle.steal_workers.specs.Deques.{all_but, all_popped, all_pushed, all_stolen, hand_of}
-use Rattle.steal_workers.specs.Deques.{home_of, homes_of, others_below, stolen_count, sum_of}
+use Rattle.steal_workers.specs.Deques.{home_of, homes_of, others_below}
+use Rattle.core_machine.specs.Counts.{sum_of}
+use Rattle.running_worker.specs.Worked.{stolen_count}
 use Rattle.steal_workers.proofs.Hands.{hand-else, hand-set, hands-count}
 use Rattle.steal_workers.proofs.Deals.{all-but-beyond, all-but-last, all-but-more, map-long}
 use Rattle.steal_workers.proofs.Deals.{map-snoc, others-more, others-same, same-or-other}

@@ -1,12 +1,13 @@
 -- What the seats of all workers know together.
 use Rattle.std.proofs.Common.{◌≡◌, ℕ, zero, suc, ◌<◌, ◌≤◌, ◌+◌, ◌⊎◌, Bool, List, [], ◌∷◌, ◌++◌, length}
 use Rattle.std.proofs.Common.{get_or, min, refl, sym, ap, ◌∙◌, subst, arith, All, Contains, count_by}
-use Rattle.std.proofs.Common.{cond, inl, inr}
-use Rattle.std.proofs.lemmas.List.Elements.{All-cons, All-nil, All-weaker, Contains-append_cases}
+use Rattle.std.proofs.Common.{cond, inl, inr, Some, append_assoc}
+use Rattle.std.proofs.lemmas.List.Elements.{All-cons, All-nil, All-pop, All-weaker}
+use Rattle.std.proofs.lemmas.List.Elements.{Contains-append_cases}
 use Rattle.std.proofs.lemmas.List.Sums.{sum_by-append}
+use Rattle.core_machine.specs.Counts.{sum_of}
 use Rattle.shared_words.specs.Best.{LeastLoss}
 use Rattle.shared_words.specs.Meter.{TicketMeter}
-use Rattle.steal_workers.specs.Deques.{sum_of}
 use Rattle.steal_workers.specs.Seats.{AreJoined, AreSeatsOf, IsPublished, both_seats}
 use Rattle.steal_workers.specs.declared.seats.Seats.{Seats}
 
@@ -54,3 +55,10 @@ joins-more best meter other all whole whole' is joined e =
         sum_by-append (λ n. cond (test n) 1 0) whole.ticket.tickets other.ticket.tickets,
       );
     })
+
+-- the last of the seats comes first, and then one after another before it
+pub starts-joined : (best : LeastLoss) (meter : TicketMeter) (all rest : List Seats) (last : Seats) →
+    all ≡ rest ++ last ∷ [] → All (AreSeatsOf best meter) all →
+    All (AreSeatsOf best meter) rest × AreSeatsOf best meter last
+starts-joined best meter all rest last is each =
+    All-pop (AreSeatsOf best meter) all rest (Some last) is each

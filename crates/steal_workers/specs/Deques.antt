@@ -6,12 +6,10 @@ use Rattle.std.specs.declared.vec.Vec.{Vec}
 use Rattle.atomic_blocks.specs.Lent.{RowsId}
 use Rattle.list_laws.specs.Sets.{times, same_list}
 use Rattle.order_symmetry.specs.Ranked.{RankedOrders}
+use Rattle.core_machine.specs.Counts.{sum_of}
 use Rattle.steal_deques.specs.Deque.{DequeOwner, DequeThief}
+use Rattle.running_worker.specs.Worked.{stolen_count}
 use Rattle.steal_workers.specs.declared.lending.Dealt.{Dealt}
-
-abbrev pub sum_of : {X : Type 0} → (X → ℕ) → List X → ℕ
-sum_of f [] = 0
-sum_of f (x ∷ xs) = f x + sum_of f xs
 
 -- a list without what stands at a place
 abbrev pub all_but : {X : Type 0} → ℕ → List X → List X
@@ -99,9 +97,6 @@ pub record IsLastOfAll (number : ℕ) (own : DequeOwner) (hands : Hands) : Type 
       (homes : List Home) × (homes_of (hand_of hands i) ≡ homes ++ home_of own ∷ [])
 
 -- how often a path stands among those that thieves stole, that owners pushed, and that they popped
-abbrev pub stolen_count : List ℕ → List DequeThief → ℕ
-stolen_count path = sum_of (λ thief. times same_list path thief.stolen)
-
 abbrev pub all_stolen : List ℕ → Hands → ℕ
 all_stolen path = sum_of (stolen_count path)
 

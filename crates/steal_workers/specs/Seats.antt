@@ -1,9 +1,9 @@
 -- The seats of workers, at the least loss and at the tickets of a round.
 use Rattle.std.specs.Prelude.{◌≡◌, ◌≤◌, ◌<◌, ◌+◌, ℕ, Bool, false, ◌||◌, List, [], ◌++◌, All, Contains}
 use Rattle.std.specs.Prelude.{count_by, get_or, length, min}
+use Rattle.core_machine.specs.Counts.{sum_of}
 use Rattle.shared_words.specs.Best.{IsLossSeatOf, LeastLoss, LossSeat}
 use Rattle.shared_words.specs.Meter.{IsTicketSeatOf, TicketMeter, TicketSeat}
-use Rattle.steal_workers.specs.Deques.{sum_of}
 use Rattle.steal_workers.specs.declared.seats.Seats.{Seats}
 
 -- seats with so many shares that have seen, published and drawn nothing

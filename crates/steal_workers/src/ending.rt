@@ -1,7 +1,7 @@
 //! The end of a round's deques: all thieves go back to their owners, and what a deque still holds
 //! is taken out.
-ghost use Rattle.std.specs.Prelude.{◌≡◌, ◌<◌, ◌+◌, ◌++◌, ◌∷◌, [], ℕ, List, All, OnOk, length, set};
-ghost use Rattle.std.specs.Prelude.{vec_len};
+ghost use Rattle.std.specs.Prelude.{◌≡◌, ◌<◌, ◌+◌, ◌++◌, ◌∷◌, [], ℕ, List, All, IfOk, OnOk, length};
+ghost use Rattle.std.specs.Prelude.{set, vec_len};
 ghost use Rattle.list_laws.specs.Sets.{times, same_list};
 ghost use Rattle.steal_workers.specs.Deques.{AreBack, AreOfAll, EndsOne, IsLastOfAll, IsLent};
 ghost use Rattle.steal_workers.specs.Deques.{all_popped, all_pushed, all_stolen, hand_of, hands_in};
@@ -10,24 +10,24 @@ use mill_model::{OutOfMemory, Path};
 use std::alloc::Global;
 use steal_deques::{Own, Thief, gather};
 
-/// Takes all thieves back to the owners of their deques, and appends what the deques still hold.
+/// Takes all thieves back to the owners of their deques, and gives what the deques still hold.
 pub(crate) fn end_deques(
     alloc: Global,
     mut owns: Vec<Own>,
     mut hands: Vec<Vec<Thief>>,
-    left: &mut Vec<Path>,
-) -> Result<(), OutOfMemory>
+) -> Result<Vec<Path>, OutOfMemory>
     requires workers { length (hands_in hands.items) ≡ length owns.items }
     requires lent { All (IsLent (length owns.items)) owns.items }
     requires thieves { AreOfAll owns.items (hands_in hands.items) }
-    ensures { OnOk result ((x : List ℕ) → times same_list x left.old.items
-        + all_pushed x owns.items ≡ times same_list x left.new.items + all_popped x owns.items
+    ensures { IfOk result (λ left. (x : List ℕ) → all_pushed x owns.items
+        ≡ times same_list x left.items + all_popped x owns.items
         + all_stolen x (hands_in hands.items)) }
 {
+    let mut left = Vec::new(alloc);
     while let Some(own) = owns.pop() {
-        end_deque(alloc, own, owns.len(), &mut hands, left)?;
+        end_deque(alloc, own, owns.len(), &mut hands, &mut left)?;
     }
-    Ok(())
+    Ok(left)
 }
 
 // Takes the last thief of each worker but the owner, which has this number, back to it, and appends

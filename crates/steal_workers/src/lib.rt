@@ -3,5 +3,14 @@
 #![tactic(auto)]
 
 mod ending;
+mod gathering;
+mod jobs;
 mod lending;
+mod parting;
+mod round;
+mod running;
 mod seats;
+mod words;
+
+pub use running::run_workers;
+pub use running_worker::{Gate, OpenGate};

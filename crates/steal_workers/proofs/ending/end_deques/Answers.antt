@@ -1,5 +1,4 @@
 use Rattle.std.proofs.Common.{rules, ◌∙◌, ◌+◌, arith, length}
-use Rattle.list_laws.specs.Sets.{times, same_list}
 use Rattle.steal_workers.specs.Deques.{all_popped, all_pushed, all_stolen, hands_in}
 use Rattle.steal_workers.proofs.Backs.{last-thieves, less-lent, less-thieves, none-left, paths-more}
 use Rattle.steal_workers.proofs.ending.end_deques.Goals as goal
@@ -26,7 +25,7 @@ loop-own-preserved c = record {
       paths-more c.loop-own.owns.items c.pop.new.self.items c.in-Some.own
       (hands_in c.loop-own.hands.items) c.len.result c.in-Some.ensures.items (search rules)
       c.loop-own.invariant.thieves x
-      (times same_list x c.args.left.now.items + all_pushed x c.args.owns.items)
+      (all_pushed x c.args.owns.items)
       (all_popped x c.args.owns.items + all_stolen x (hands_in c.args.hands.items))
       (hands_in c.end_deque.new.hands.items) c.loop-own.left.items
       c.end_deque.new.left.items c.in_ok-end_deque.ensures.ended

@@ -11,8 +11,8 @@ invariant-loop-own l = record {
   lent : All (IsLent (length l.fn.owns.items)) l.owns.items;
   thieves : AreOfAll l.owns.items (hands_in l.hands.items);
   paths : (x : List ℕ) →
-      times same_list x l.fn.left.items + all_pushed x l.fn.owns.items
-      + all_popped x l.owns.items + all_stolen x (hands_in l.hands.items)
+      all_pushed x l.fn.owns.items + all_popped x l.owns.items
+      + all_stolen x (hands_in l.hands.items)
       ≡ times same_list x l.left.items + all_pushed x l.owns.items
       + all_popped x l.fn.owns.items + all_stolen x (hands_in l.fn.hands.items);
 }

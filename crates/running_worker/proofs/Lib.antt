@@ -1,4 +1,0 @@
-pub mod Events
-pub mod Losses
-pub mod AtWork
-pub mod Ends

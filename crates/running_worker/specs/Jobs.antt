@@ -7,11 +7,10 @@ use Rattle.shared_words.specs.Meter.{IsTicketSeatOf}
 use Rattle.steal_deques.specs.Deque.{DequeThief}
 use Rattle.running_worker.specs.declared.job.Job.{Job}
 use Rattle.running_worker.specs.declared.round.Round.{Round}
-use Rattle.running_worker.specs.Running.{Running}
 
 -- a thief of some deque for paths in the tree of these orders, which has stolen nothing yet
 pub record IsNewThief (ranked : RankedOrders) (thief : DequeThief) : Type 0 where
-  pub ranked : thief.ranked ≡ ranked
+  pub orders : thief.ranked ≡ ranked
   pub stolen : thief.stolen ≡ []
 
 -- A job of a round over these ranked orders: its seats are of the round's words, it has a thief for
@@ -29,17 +28,3 @@ pub record IsJobOf (ranked : RankedOrders) (round : Round) (job : Job) : Type 0 
   pub tickets : job.ticket_seat.tickets ≡ []
   pub draws : 1 ≤ job.ticket_seat.spends
   pub popped : job.own.popped ≡ []
-
--- the hand of a job, before its worker's first step
-abbrev pub hand_of : RankedOrders → Round → Job → Running
-hand_of ranked round job = record {
-  ranked = ranked;
-  number = job.number;
-  workers = round.workers;
-  best = round.best;
-  meter = round.meter;
-  loss_seat = job.loss_seat;
-  ticket_seat = job.ticket_seat;
-  own = job.own;
-  thieves = job.thieves.items;
-}

@@ -1,4 +1,2 @@
-pub mod Running
 pub mod Jobs
 pub mod Worked
-pub mod AtWork

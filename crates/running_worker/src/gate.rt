@@ -7,7 +7,6 @@ pub trait Gate: Sync {
 }
 
 /// A gate that never waits.
-#[derive(Drop)]
 pub struct OpenGate;
 
 impl Gate for OpenGate {

@@ -5,10 +5,8 @@ mod gate;
 mod job;
 mod round;
 mod running;
-mod running_hand;
 
 pub use gate::{Gate, OpenGate};
 pub use job::{Job, JobEnd};
 pub use round::Round;
 pub use running::work;
-pub use running_hand::RunningHand;

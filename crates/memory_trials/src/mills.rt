@@ -1,4 +1,4 @@
-//! Two mills with the one size 4 and two colours a slab. Orders, groups and ranks are counted from 0.
+//! Two mills with the one size 4 and two colours a slab.
 ghost use Rattle.std.specs.Prelude.{◌≡◌, ◌≤◌, All, IfOk, IsTrue, length};
 ghost use Rattle.order_symmetry.specs.Ranked.{orders_of};
 

@@ -31,7 +31,8 @@ struct Trial<'a> {
     loss: u64,
 }
 
-/// The path `0 0 1` loses 4; from then on prices close what is worth more than 3.
+/// Each plan loses 4 or more, so no prices close a path while 5 is known. The path `0 0 1` loses 4;
+/// then a sweep closes the path `0 1`.
 const THREE_ORDERS: Trial = Trial {
     known: 5,
     records: &[
@@ -45,10 +46,11 @@ const THREE_ORDERS: Trial = Trial {
     loss: 4,
 };
 
-/// The path `0 0 1 1 2` loses 2: one order is left alone. Where three orders or more are to come
-/// that halve each other's slabs, prices are worth 0; so are those of two orders before three open
-/// groups. Where one is to come it is left alone, or leaves a group alone: prices are worth 2 or
-/// more. Two full orders and one alone are the same live key three times.
+/// Two orders fill a slab and lose nothing, and one order alone loses 2. Where two orders or more
+/// are to come, all prices are 0, and worth 0. Where one is to come, prices are worth 120 or more,
+/// which is 2 or more as a loss: too little while 3 is known, and enough once the path `0 0 1 1 2`
+/// has lost 2. The paths `0 0 1`, `0 1 0` and `0 1 1` have one full slab and one order alone, so
+/// that their live keys are equal.
 const FIVE_ORDERS: Trial = Trial {
     known: 3,
     records: &[

@@ -84,6 +84,29 @@ pub split-at : (at : ℕ) (all front back : List ℕ) → front ≡ take at all 
 split-at at all front back f b =
     sym (take-append-drop at all) ∙ ap₂ (λ x y. x ++ y) (sym f) (sym b)
 
+-- a text was put in where a block held nothing, and what the block then holds was written
+pub text-written : (s t u : Option (List ℕ)) (b c p text : List ℕ) → b ≡ [] → text ≡ p
+    → GoesOut s t b c p → Appends t u c → Appends s u text
+text-written s t u b c p text none e first last =
+    let all : text ≡ first.out ++ c = e ∙ ap (λ l. l ++ p) (sym none) ∙ first.rest in
+    rw all (Appends-trans s t u first.out c first.written last)
+
+-- where the last write fails, a front of the text was written
+pub front-written-last : (s t u : Option (List ℕ)) (b c p text : List ℕ) → b ≡ [] → text ≡ p
+    → GoesOut s t b c p → AppendsFront t u c → AppendsFront s u text
+front-written-last s t u b c p text none e first last =
+    let all : text ≡ first.out ++ c = e ∙ ap (λ l. l ++ p) (sym none) ∙ first.rest in (
+      first.out ++ last.0,
+      last.1,
+      all ∙ ap (λ l. first.out ++ l) last.2 ∙ sym (append_assoc first.out last.0 last.1),
+      Appends-trans s t u first.out last.0 first.written last.3,
+    )
+
+-- a call that doesn't fail leaves the count as it is, so its cause is that of the next
+pub cause-behind : {T E U F : Type 0} (a b c : ℕ) (x : T) (r : Result U F)
+    → HasCause {T = T} {E = E} a b (Ok x) → HasCause b c r → HasCause a c r
+cause-behind a b c x r first last = rw first.kept at last
+
 module _ {K : Type 0} (written held : K → Option (List ℕ)) (faults : K → ℕ) where
   -- a text that a block has room for
   pub stays-in-block : {T E : Type 0} (s : K) (b c p : List ℕ) (x : T) → c ≡ b ++ p
@@ -179,3 +202,8 @@ module _ {K : Type 0} (written held : K → Option (List ℕ)) (faults : K → �
   put-fails-behind {U = U} s t u b c d d' p q more text x f r e is first second =
       put-fails s u b d d' (p ++ q) more text f r (e ∙ sym (append_assoc p q more)) is
       (put-behind {U = U} s t u b c d p q (p ++ q) x (Err f) refl first second)
+
+  -- a text that is put in is what another name stands for
+  pub put-same : {T E : Type 0} (s t : K) (b c p text : List ℕ) (r : Result T E) → text ≡ p
+      → PutsText written held faults s t b c p r → PutsText written held faults s t b c text r
+  put-same s t b c p text r e puts = rw e puts

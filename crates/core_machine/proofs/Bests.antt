@@ -2,8 +2,8 @@
 -- them.
 use Rattle.std.proofs.Common.{ℕ, zero, suc, ◌<◌, ◌≤◌, ◌≡◌, ◌⊎◌, inl, inr, Bool, true, false, cond}
 use Rattle.std.proofs.Common.{ltb}
-use Rattle.std.proofs.Common.{List, [], ◌∷◌, length, get_or, Option, Some, None, refl, sym, subst}
-use Rattle.std.proofs.Common.{arith, ltb-true, ltb-false}
+use Rattle.std.proofs.Common.{List, [], ◌∷◌, length, get_or, Option, Some, None, refl, sym, ap}
+use Rattle.std.proofs.Common.{◌∙◌, subst, arith, ltb-true, ltb-false}
 use Rattle.std.specs.List.{AllByRecursion}
 use Rattle.list_laws.proofs.Tests.{either}
 use Rattle.mill_model.specs.declared.plan.Start.{Start}
@@ -62,3 +62,25 @@ best-at-most-kept start (w ∷ ws) zero kept l e =
     omega (arith, best-at-most (better_of start w.best) ws, better-at-most-kept start w.best kept e)
 best-at-most-kept start (w ∷ ws) (suc i) kept l e =
     best-at-most-kept (better_of start w.best) ws i kept (omega arith) e
+
+-- the plan itself, or the one that some worker keeps
+better-among : (start : Start) (found : Option Start) →
+    (better_of start found ≡ start) ⊎ (found ≡ Some (better_of start found))
+better-among start None = inl refl
+better-among start (Some kept) = go (ltb kept.loss start.loss)
+  where
+    go : (b : Bool) → (cond b kept start ≡ start) ⊎ (Some kept ≡ Some (cond b kept start))
+    go true = inr refl
+    go false = inl refl
+
+pub best-among : (start : Start) (ws : List Parts) →
+    (best_of start ws ≡ start)
+    ⊎ ((i : ℕ) × (i < length ws) × ((get_or ws i no_worker).best ≡ Some (best_of start ws)))
+best-among start [] = inl refl
+best-among start (w ∷ ws) = elim (best-among (better_of start w.best) ws) [
+  | inr (i, l, keeps) ↦ inr (suc i, omega (arith, l), keeps)
+  | inl same ↦ elim (better-among start w.best) [
+    | inl stays ↦ inl (same ∙ stays)
+    | inr kept ↦ inr (zero, omega arith, kept ∙ ap (λ (s : Start). Some s) (sym same))
+  ]
+]

@@ -16,5 +16,8 @@ pub mod Joined
 pub mod Bests
 pub mod InTree
 pub mod Promise
+pub mod Drained
+pub mod Stops
+pub mod Left
 pub mod SmallRuns
 pub mod RunLaws

@@ -1,6 +1,6 @@
--- What a run leaves keeps the promise of a run: with the pieces and the unclosed paths that it
--- began with, no path is lost or recorded twice, each record is sound for the least loss, which the
--- best plan loses, each ticket is a record, and a path is left only where tickets wanted.
+-- What workers leave where they may stop keeps the promise of a run: with the pieces and the unclosed
+-- paths that they began with, no path is lost or recorded twice, each record is sound for the least
+-- loss, which the best plan loses, and each ticket is a record.
 use Rattle.std.proofs.Common.{ℕ, suc, ◌+◌, ◌<◌, ◌≤◌, ◌≡◌, ◌≢◌, inl, inr, min, Bool, true}
 use Rattle.std.proofs.Common.{false, not, ◌&&◌, ◌||◌, List, [], ◌∷◌, ◌++◌, length, flat_map}
 use Rattle.std.proofs.Common.{get_or, Option, Some, None, option_to_list, refl, sym, ap, ◌∙◌, subst}
@@ -44,10 +44,11 @@ use Rattle.core_machine.specs.Core.{Core, any_busy, is_busy, is_empty, no_worker
 use Rattle.core_machine.specs.Core.{unclosed_by, unclosed_of, worker}
 use Rattle.core_machine.specs.Counts.{sum_of, tickets_of}
 use Rattle.core_machine.specs.Ends.{is_calm, is_drained}
-use Rattle.core_machine.specs.Kept.{IsLast, best_of}
+use Rattle.core_machine.specs.Kept.{MayStop, best_of}
 use Rattle.core_machine.specs.Steady.{EachWorker}
 
-calm-at-rest : (phase : Phase) → is_calm phase ≡ true → (in_work phase ≡ 0) × (phase ≢ Publishing)
+-- a calm worker has no ticket for a path in work, and no plan to publish
+pub calm-at-rest : (phase : Phase) → is_calm phase ≡ true → (in_work phase ≡ 0) × (phase ≢ Publishing)
 calm-at-rest Resting e = (refl, λ q. absurd (cc))
 calm-at-rest Taking e = (refl, λ q. absurd (cc))
 calm-at-rest Stealing e = (refl, λ q. absurd (cc))
@@ -58,43 +59,6 @@ calm-at-rest Pushing e = (refl, λ q. absurd (cc))
 calm-at-rest Bounding e = absurd (clash false e refl)
 calm-at-rest ClosingNow e = absurd (clash false e refl)
 calm-at-rest Publishing e = absurd (clash false e refl)
-
--- where no deque, no held path and no waiting path is left, nothing is unclosed
-none-queued : (deques : List (List (List ℕ))) → list_all is_empty deques ≡ true →
-    flat_map (λ paths. paths) deques ≡ []
-none-queued [] h = refl
-none-queued ([] ∷ deques) h = none-queued deques h
-none-queued ((path ∷ paths) ∷ deques) h = absurd (clash false h refl)
-
-none-held : (held : Option (List ℕ)) (waiting : List (List ℕ)) →
-    not (is_empty (option_to_list held) && is_empty waiting) ≡ false →
-    option_to_list held ++ waiting ≡ []
-none-held None [] h = refl
-none-held None (path ∷ waiting) h = absurd (clash true refl h)
-none-held (Some path) waiting h = absurd (clash true refl h)
-
-none-busy : (ws : List Parts) → any_busy ws ≡ false → flat_map unclosed_by ws ≡ []
-none-busy [] h = refl
-none-busy (w ∷ ws) h =
-    let both = neither (is_busy w) (any_busy ws) h in
-    ap (λ l. l ++ flat_map unclosed_by ws) (none-held w.held w.waiting both.0)
-    ∙ none-busy ws both.1
-  where
-    neither : (a b : Bool) → (a || b) ≡ false → (a ≡ false) × (b ≡ false)
-    neither true b h = absurd (clash true refl h)
-    neither false b h = (refl, h)
-
-drained-closed : (c : Core) → is_drained c ≡ true → unclosed_of c ≡ []
-drained-closed c h =
-    ap (λ l. l ++ flat_map (λ (paths : List (List ℕ)). paths) c.shared.deques)
-    (none-busy c.workers (idle (any_busy c.workers)
-    (and-right (list_all is_empty c.shared.deques) (not (any_busy c.workers)) h)))
-    ∙ none-queued c.shared.deques
-    (and-left (list_all is_empty c.shared.deques) (not (any_busy c.workers)) h)
-  where
-    idle : (b : Bool) → not b ≡ true → b ≡ false
-    idle true e = absurd (clash false e refl)
-    idle false e = refl
 
 -- what is thrifty for a loss is so for a greater one
 thrifty-more : (task : Task) (less more : ℕ) (path : List ℕ) (c : Closing) → less ≤ more →
@@ -125,7 +89,7 @@ no-tickets (w ∷ ws) h =
     omega (arith, h 0 (omega arith), no-tickets ws (λ i l. h (suc i) (omega arith)))
 
 module _ (ranked : RankedOrders) (charges : ChargeTable) (start budget before : ℕ)
-    (owed : List (List ℕ)) (d : Core) (last : IsLast ranked charges start budget before owed d)
+    (owed : List (List ℕ)) (d : Core) (stop : MayStop ranked charges start budget before owed d)
   where
     abbrev task : Task
     task = task_at ranked charges
@@ -137,17 +101,17 @@ module _ (ranked : RankedOrders) (charges : ChargeTable) (start budget before : 
         each-piece P d.workers (all-from-places (λ (w : Parts). P w.piece) d.workers no_worker h)
 
     honest : EachWorker d (λ i w. IsHonest ranked charges start w)
-    honest = last.kept.good.honest
+    honest = stop.good.honest
 
     knows : EachWorker d (λ i w. d.shared.least ≤ w.known)
     knows i l =
-        (last.kept.found.each i l).known
-        (calm-at-rest (worker d i).phase (last.ends.calm i l)).1
+        (stop.found.each i l).known
+        (calm-at-rest (worker d i).phase (stop.calm i l)).1
 
     -- the least loss is at most the one at the start
     pub least-at-most : d.shared.least ≤ start
     least-at-most =
-        let some = last.kept.steady.some in
+        let some = stop.some in
         omega (arith, knows 0 some, (honest 0 some).at_most)
 
     pub pieces-sound : EachRecord (pieces_of d)
@@ -196,7 +160,7 @@ module _ (ranked : RankedOrders) (charges : ChargeTable) (start budget before : 
         (all-from-places (λ w. (k : Start) → w.best ≡ Some k → d.shared.least ≤ k.loss) d.workers
         no_worker (λ i l k e. (let a = (honest i l).above k e in let b = knows i l in
         omega (arith, a, b)))) in
-        elim last.kept.found.plan [
+        elim stop.found.plan [
           | inl q ↦ omega (arith, low, best-at-most first d.workers, same, q)
           | inr p ↦ omega (
             arith,
@@ -209,14 +173,8 @@ module _ (ranked : RankedOrders) (charges : ChargeTable) (start budget before : 
     pub pieces-counted : before + length (joined (pieces_of d)) ≡ min d.shared.drawn budget
     pieces-counted =
         let none = no-tickets d.workers
-        (λ i l. (calm-at-rest (worker d i).phase (last.ends.calm i l)).0) in
-        omega (arith, none, length-counted d.workers, last.kept.good.counted)
-
-    pub left-where-spent : unclosed_of d ≢ [] → budget < d.shared.drawn
-    left-where-spent left = elim last.ends.over [
-      | inl more ↦ more
-      | inr drained ↦ absurd (left (drained-closed d drained))
-    ]
+        (λ i l. (calm-at-rest (worker d i).phase (stop.calm i l)).0) in
+        omega (arith, none, length-counted d.workers, stop.good.counted)
 
     -- With the pieces of a run whose unclosed paths were those to close.
     module _ (given : List (List Entry)) (run : IsConserved (task_at ranked charges) given owed)
@@ -240,7 +198,7 @@ module _ (ranked : RankedOrders) (charges : ChargeTable) (start budget before : 
                 own-counted x d.workers,
                 queued-counted x d.shared.deques,
                 split-counted x task d.workers,
-                last.kept.good.conserved x,
+                stop.good.conserved x,
                 run.paths x,
               ));
           named = each-append
@@ -267,36 +225,3 @@ module _ (ranked : RankedOrders) (charges : ChargeTable) (start budget before : 
         pub counted-with : before ≡ length (joined given) →
             length (joined (given ++ pieces_of d)) ≡ min d.shared.drawn budget
         counted-with e = omega (arith, e, length-both given (pieces_of d), pieces-counted)
-
-        -- a run whose parts are these
-        pub is-run : (first : Start) → IsKept ranked charges first → first.loss ≡ start →
-            EachRecord given
-            (λ entry. sound (task_at ranked charges) start entry.path entry.closing ≡ true) →
-            before ≡ length (joined given) → (result : Run) →
-            records_of result ≡ given ++ pieces_of d → result.unclosed.items ≡ unclosed_of d →
-            record { plan = result.plan; loss = result.loss } ≡ best_of first d.workers →
-            result.drawn ≡ d.shared.drawn →
-            EachRecord (records_of result) (λ entry. fits (length ranked.placed) entry ≡ true) →
-            IsRun ranked charges start budget result
-        is-run first kept same each count result records unclosed best drawn fit =
-            let loses : result.loss ≡ d.shared.least =
-            ap (λ (s : Start). s.loss) best ∙ best-loses first same in
-            let plan : IsKept ranked charges (record { plan = result.plan; loss = result.loss }) =
-            subst (IsKept ranked charges) (sym best) (best-is-kept first kept) in
-            record {
-              conserved = subst (λ (l : List (List Entry)).
-                  IsConserved task l result.unclosed.items) (sym records)
-                  (subst (IsConserved task (given ++ pieces_of d)) (sym unclosed) conserved-with);
-              each_sound = subst (λ (l : List (List Entry)).
-                  EachRecord l (λ entry. sound task result.loss entry.path entry.closing ≡ true))
-                  (sym records) (subst (λ (n : ℕ). EachRecord (given ++ pieces_of d)
-                  (λ entry. sound task n entry.path entry.closing ≡ true)) (sym loses)
-                  (sound-with each));
-              fit = fit;
-              plan = plan.plan;
-              at_most = omega (arith, loses, least-at-most);
-              count = ap (λ l. length (joined l)) records ∙ counted-with count
-                  ∙ ap (λ n. min n budget) (sym drawn);
-              left = λ some. subst (λ n. budget < n) (sym drawn)
-                  (left-where-spent (λ none. some (unclosed ∙ none)));
-            }

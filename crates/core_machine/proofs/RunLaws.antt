@@ -8,16 +8,17 @@ use Rattle.mill_model.specs.Conserved.{joined, IsConserved}
 use Rattle.order_symmetry.specs.Ranked.{RankedOrders, IsRanked}
 use Rattle.search_step.specs.Steps.{task_at}
 use Rattle.search_step.specs.declared.parts.Turn.TheVariants.{OutOfMemory}
+use Rattle.core_machine.proofs.Drained.{left-where-spent}
 use Rattle.core_machine.proofs.Falls.{round-lowers}
 use Rattle.core_machine.proofs.InTree.{root-in-tree, unclosed-in-tree}
 use Rattle.core_machine.proofs.Last.{run-keeps}
 use Rattle.core_machine.proofs.Promise.{best-is-kept, best-loses, conserved-with, counted-with}
-use Rattle.core_machine.proofs.Promise.{least-at-most, left-where-spent, pieces-anew}
-use Rattle.core_machine.proofs.Promise.{pieces-thrifty, sound-with}
+use Rattle.core_machine.proofs.Promise.{least-at-most, pieces-anew, pieces-thrifty, sound-with}
 use Rattle.core_machine.proofs.Runs.{schedule-keeps, whole-round-keeps}
 use Rattle.core_machine.proofs.Starts.{steady-first, workers-count}
 use Rattle.core_machine.proofs.Steady.{event-is-step, queue-at, steady-event}
 use Rattle.core_machine.proofs.Steps.{step-made}
+use Rattle.core_machine.proofs.Stops.{last-stops}
 use Rattle.core_machine.specs.Core.{Core, Last, More, Rounds, after_schedule, event}
 use Rattle.core_machine.specs.Core.{start_state, step, whole_round, worker}
 use Rattle.core_machine.specs.Ends.{measure}
@@ -121,19 +122,20 @@ runs-keep-their-promise ranked charges budget workers start drawn schedule given
     let end =
     run-keeps ranked charges budget fit start before owed workers drawn schedule last some few
     within count (unclosed-in-tree ranked charges given owed conserved) numbers rounds in
+    let stop = last-stops ranked charges start budget before owed last end in
     record {
-      conserved = conserved-with ranked charges start budget before owed last end given conserved;
+      conserved = conserved-with ranked charges start budget before owed last stop given conserved;
       each_sound =
-          sound-with ranked charges start budget before owed last end given conserved each;
-      at_most = least-at-most ranked charges start budget before owed last end;
+          sound-with ranked charges start budget before owed last stop given conserved each;
+      at_most = least-at-most ranked charges start budget before owed last stop;
       best = λ first kept same. (
-        best-is-kept ranked charges start budget before owed last end first kept,
-        best-loses ranked charges start budget before owed last end first same,
+        best-is-kept ranked charges start budget before owed last stop first kept,
+        best-loses ranked charges start budget before owed last stop first same,
       );
-      count = counted-with ranked charges start budget before owed last end given conserved refl;
-      left = left-where-spent ranked charges start budget before owed last end;
-      thrifty = pieces-thrifty ranked charges start budget before owed last end;
-      anew = pieces-anew ranked charges start budget before owed last end;
+      count = counted-with ranked charges start budget before owed last stop given conserved refl;
+      left = left-where-spent budget last end.ends;
+      thrifty = pieces-thrifty ranked charges start budget before owed last stop;
+      anew = pieces-anew ranked charges start budget before owed last stop;
     }
 
 -- no piece, and the empty path to close

@@ -1,7 +1,6 @@
 -- What a run of a machine keeps of paths, tickets and plans.
-use Rattle.std.specs.Prelude.{ℕ, ◌+◌, ◌<◌, ◌≤◌, ◌≡◌, ◌≢◌, ◌⊎◌, cond, ltb, min, List, [], ◌∷◌}
-use Rattle.std.specs.Prelude.{length}
-use Rattle.std.specs.Prelude.{Option, Some, None}
+use Rattle.std.specs.Prelude.{ℕ, ◌+◌, ◌<◌, ◌≤◌, ◌≡◌, ◌≢◌, ◌⊎◌, true, cond, ltb, min, List, []}
+use Rattle.std.specs.Prelude.{◌∷◌, length, Option, Some, None}
 use Rattle.list_laws.specs.Sets.{times, same_list}
 use Rattle.mill_model.specs.Charges.{ChargeTable}
 use Rattle.mill_model.specs.declared.plan.Start.{Start}
@@ -12,7 +11,7 @@ use Rattle.search_step.specs.Steps.{task_at}
 use Rattle.search_step.specs.declared.parts.Phase.TheVariants.{Publishing}
 use Rattle.core_machine.specs.Core.{Core, worker}
 use Rattle.core_machine.specs.Counts.{sum_of, own_count, split_count, tickets_of}
-use Rattle.core_machine.specs.Ends.{IsAtEnd}
+use Rattle.core_machine.specs.Ends.{IsAtEnd, is_calm}
 use Rattle.core_machine.specs.Steady.{EachWorker, IsSteady}
 
 -- Of a run that began with a loss, with some paths to close and so many records before. The paths
@@ -67,3 +66,11 @@ pub record IsLast (ranked : RankedOrders) (charges : ChargeTable) (start budget 
     (owed : List (List ℕ)) (c : Core) : Type 0 where
   pub kept : Keeps ranked charges start budget before owed c
   pub ends : IsAtEnd budget c
+
+-- a state at which its workers may stop, however they came there: each of them is calm
+pub record MayStop (ranked : RankedOrders) (charges : ChargeTable) (start budget before : ℕ)
+    (owed : List (List ℕ)) (c : Core) : Type 0 where
+  pub some : 0 < length c.workers
+  pub good : IsGood ranked charges start budget before owed c
+  pub found : IsFound start c
+  pub calm : EachWorker c (λ i w. is_calm w.phase ≡ true)

@@ -7,3 +7,4 @@ pub mod Ends
 pub mod Kept
 pub mod Rows
 pub mod Laws
+pub mod Left

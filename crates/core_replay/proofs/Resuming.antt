@@ -1,37 +1,31 @@
--- What workers leave that went on from a run keeps the promise of a run: from the laws of the
--- machine's runs.
-use Rattle.std.proofs.Common.{ℕ, ◌+◌, ◌<◌, ◌≤◌, ◌≡◌, true, List, [], ◌∷◌, ◌++◌, length}
-use Rattle.std.proofs.Common.{Result, Ok, Err, IfOk, refl, sym, ap, ◌∙◌, subst, arith}
-use Rattle.std.proofs.Common.{length-append}
+-- What workers leave that went on from a run keeps the promise of a run: the last state of their
+-- machine is one at which workers may stop.
+use Rattle.std.proofs.Common.{ℕ, ◌+◌, ◌<◌, ◌≤◌, ◌≡◌, List, [], ◌∷◌, ◌++◌, length, Result, Ok}
+use Rattle.std.proofs.Common.{Err, IfOk, refl, sym, ap, ◌∙◌, subst, arith, length-append}
 use Rattle.std.proofs.lemmas.List.{length-map}
 use Rattle.std.specs.List.{AllByRecursion}
 use Rattle.list_laws.specs.Sets.{same_list, times}
-use Rattle.list_laws.proofs.Among.{each-append}
 use Rattle.mill_model.specs.Charges.{ChargeTable}
 use Rattle.mill_model.specs.Conserved.{joined}
-use Rattle.mill_model.specs.Thrift.{AreThrifty, splits_thriftily}
-use Rattle.mill_model.specs.declared.closing.Entry.{Entry}
-use Rattle.mill_model.specs.declared.plan.Start.{Start}
-use Rattle.mill_laws.specs.RunLaws.{EachRecord}
 use Rattle.order_symmetry.specs.Ranked.{RankedOrders, IsRanked}
-use Rattle.refute_log.specs.Fits.{fits}
 use Rattle.refute_log.specs.declared.piece.Run.{Run}
-use Rattle.search_step.specs.Promise.{IsRun, IsThrifty, records_of}
+use Rattle.search_step.specs.Promise.{AllFit, IsRun, records_of}
+use Rattle.search_step.specs.Resumable.{GoesOnFrom, start_of}
 use Rattle.search_step.specs.Serving.{IsPathOf}
-use Rattle.search_step.specs.Steps.{FitsMill, task_at}
+use Rattle.search_step.specs.Steps.{FitsMill}
 use Rattle.core_machine.specs.Core.{Core, Rounds, after_schedule, first_state, pieces_of}
 use Rattle.core_machine.specs.Core.{unclosed_of}
-use Rattle.core_machine.specs.Kept.{IsLast, best_of}
+use Rattle.core_machine.specs.Kept.{IsLast, MayStop, best_of}
+use Rattle.core_machine.specs.Left.{IsLeftAfter}
 use Rattle.core_machine.specs.Steady.{IsSteady}
 use Rattle.core_machine.proofs.InTree.{unclosed-in-tree}
-use Rattle.core_machine.proofs.Joined.{joined-append}
 use Rattle.core_machine.proofs.Last.{run-draws, run-keeps}
-use Rattle.core_machine.proofs.Promise.{are-thrifty-more, best-loses, is-run, pieces-anew}
-use Rattle.core_machine.proofs.Promise.{pieces-thrifty}
+use Rattle.core_machine.proofs.Left.{run-goes-on, run-keeps-promise, run-loses}
 use Rattle.core_machine.proofs.Runs.{rounds-count, schedule-count}
 use Rattle.core_machine.proofs.Starts.{steady-first, workers-count}
+use Rattle.core_machine.proofs.Stops.{last-stops}
 use Rattle.core_replay.specs.Crew.{CrewState, IsReady, SameRun, crew_with}
-use Rattle.core_replay.specs.Replayed.{GoesOnFrom, IsLeftBy, start_of}
+use Rattle.core_replay.specs.Replayed.{IsLeftBy}
 use Rattle.core_replay.specs.Resumed.{CanResume, IsResumed}
 use Rattle.core_replay.proofs.Fits.{new-fit, run-fits}
 
@@ -108,78 +102,53 @@ module _ (ranked : RankedOrders) (charges : ChargeTable) (nodes workers : ℕ)
       given.unclosed.items workers given.drawn schedule last can.some can.few can.drawn
       can.resumable.count tree can.numbers rounds
 
+  stops : (last : Core) → Made last →
+      MayStop ranked charges given.loss nodes (length (joined (records_of given)))
+      given.unclosed.items last
+  stops last rounds =
+      last-stops ranked charges given.loss nodes (length (joined (records_of given)))
+      given.unclosed.items last (at-last last rounds)
+
   -- what they leave, from their last state
   pub resumed-from : (last : Core) → Made last → (run : Run) →
       records_of run ≡ records_of given ++ pieces_of last →
       run.unclosed.items ≡ unclosed_of last →
       start_of run ≡ best_of (start_of given) last.workers → run.drawn ≡ last.shared.drawn →
       IsResumed ranked charges nodes workers schedule given run
-  resumed-from last rounds run pieces unclosed best drawn = record {
-    last = last;
-    rounds = rounds;
-    pieces = pieces;
-    unclosed = unclosed;
-    best = best;
-    loss = ap (λ (s : Start). s.loss) best
-        ∙ best-loses ranked charges given.loss nodes (length (joined (records_of given)))
-        given.unclosed.items last (at-last last rounds) (start_of given) refl;
-    drawn = drawn;
-  }
+  resumed-from last rounds run pieces unclosed best drawn =
+      let left : IsLeftAfter given last run = record {
+        pieces = pieces;
+        unclosed = λ x. ap (times same_list x) unclosed;
+        best = best;
+        drawn = drawn;
+      } in
+      record {
+        last = last;
+        rounds = rounds;
+        left = left;
+        loss = run-loses ranked charges nodes given can.resumable last (stops last rounds) run left;
+      }
 
   module _ (run : Run) (resumed : IsResumed ranked charges nodes workers schedule given run) where
     abbrev last : Core
     last = resumed.last
 
-    ends : IsLast ranked charges given.loss nodes (length (joined (records_of given)))
-        given.unclosed.items last
-    ends = at-last last resumed.rounds
-
-    each-fits : EachRecord (records_of run) (λ entry. fits (length ranked.placed) entry ≡ true)
-    each-fits =
-        subst (λ (l : List (List Entry)).
-        EachRecord l (λ entry. fits (length ranked.placed) entry ≡ true)) (sym resumed.pieces)
-        (each-append
-        (λ piece. AllByRecursion (λ entry. fits (length ranked.placed) entry ≡ true) piece)
-        (records_of given) (pieces_of last) can.resumable.fit
-        (run-fits ranked charges nodes mill first last schedule numbered steady
+    pieces-fit : AllByRecursion (AllFit ranked) (pieces_of resumed.last)
+    pieces-fit =
+        run-fits ranked charges nodes mill first last schedule numbered steady
         (new-fit ranked workers (length ranked.placed) given.loss given.drawn
-        given.unclosed.items) resumed.rounds))
+        given.unclosed.items) resumed.rounds
 
     pub resumed-run : IsRun ranked charges given.loss nodes run
     resumed-run =
-        is-run ranked charges given.loss nodes (length (joined (records_of given)))
-        given.unclosed.items last ends (records_of given) can.resumable.conserved
-        (start_of given) can.resumable.plan refl can.resumable.each_sound refl run resumed.pieces
-        resumed.unclosed resumed.best resumed.drawn each-fits
-
-    thrifty-with : (loss : ℕ) → given.loss ≤ loss → IsThrifty ranked charges loss given →
-        IsThrifty ranked charges loss run
-    thrifty-with loss l before =
-        let thrifty : AreThrifty (task_at ranked charges) loss (joined (pieces_of last)) =
-        are-thrifty-more (task_at ranked charges) given.loss loss (joined (pieces_of last)) l
-        (pieces-thrifty ranked charges given.loss nodes (length (joined (records_of given)))
-        given.unclosed.items last ends) in
-        let whole : joined (records_of run)
-        ≡ joined (records_of given) ++ joined (pieces_of last) =
-        ap joined resumed.pieces ∙ joined-append (records_of given) (pieces_of last) in
-        record {
-          thrifty = subst (AreThrifty (task_at ranked charges) loss) (sym whole)
-              (each-append (λ entry.
-              splits_thriftily (task_at ranked charges) loss entry.path entry.closing ≡ true)
-              (joined (records_of given)) (joined (pieces_of last)) before.thrifty thrifty);
-        }
+        run-keeps-promise ranked charges nodes given can.resumable last
+        (stops last resumed.rounds) run resumed.left pieces-fit (at-last last resumed.rounds).ends
 
     pub resumed-goes-on : GoesOnFrom ranked charges given run
-    resumed-goes-on = record {
-      more = pieces_of last;
-      pieces = resumed.pieces;
-      anew = pieces-anew ranked charges given.loss nodes (length (joined (records_of given)))
-          given.unclosed.items last ends;
-      drawn = subst (λ n. given.drawn ≤ n) (sym resumed.drawn)
-          (run-draws ranked charges nodes ranks first last schedule numbered
-          steady resumed.rounds);
-      thrifty = thrifty-with;
-    }
+    resumed-goes-on =
+        run-goes-on ranked charges nodes given can.resumable last (stops last resumed.rounds) run
+        resumed.left (run-draws ranked charges nodes ranks first last schedule numbered steady
+        resumed.rounds)
 
     pub resumed-count : length (records_of run) ≡ length (records_of given) + workers
     resumed-count =
@@ -190,7 +159,7 @@ module _ (ranked : RankedOrders) (charges : ChargeTable) (nodes workers : ℕ)
         omega (
           arith,
           there,
-          ap length resumed.pieces,
+          ap length resumed.left.pieces,
           length-append (records_of given) (pieces_of last),
           length-map last.workers (λ w. w.piece),
         )
@@ -209,10 +178,10 @@ left-by ranked charges nodes workers schedule given run none root zero_drawn res
       (subst (λ (n : ℕ). Rounds ranked charges nodes (after_schedule ranked charges nodes
       (first_state workers (length ranked.placed) given.loss n given.unclosed.items) schedule)
       resumed.last) zero_drawn resumed.rounds);
-  pieces = resumed.pieces ∙ ap (λ l. l ++ pieces_of resumed.last) none;
-  unclosed = λ x. ap (times same_list x) resumed.unclosed;
+  pieces = resumed.left.pieces ∙ ap (λ l. l ++ pieces_of resumed.last) none;
+  unclosed = resumed.left.unclosed;
   loss = resumed.loss;
-  drawn = resumed.drawn;
+  drawn = resumed.left.drawn;
 }
 
 -- what is so of a result in four ways is so in a fifth

@@ -1,15 +1,13 @@
 -- What further workers leave of a run that they went on from.
-use Rattle.std.specs.Prelude.{ℕ, ◌≡◌, ◌<◌, ◌≤◌, All, List, ◌++◌, length}
+use Rattle.std.specs.Prelude.{ℕ, ◌≡◌, ◌<◌, ◌≤◌, All, List, length}
 use Rattle.std.specs.List.{AllByRecursion}
 use Rattle.mill_model.specs.Charges.{ChargeTable, Reaches}
 use Rattle.mill_model.specs.declared.limits.TheConstants.{MAX_NODES}
 use Rattle.order_symmetry.specs.Ranked.{RankedOrders, orders_of}
 use Rattle.refute_log.specs.declared.piece.Run.{Run}
-use Rattle.search_step.specs.Promise.{records_of}
+use Rattle.search_step.specs.Resumable.{IsResumable}
 use Rattle.core_machine.specs.Core.{Core, Rounds, after_schedule, first_state}
-use Rattle.core_machine.specs.Core.{pieces_of, unclosed_of}
-use Rattle.core_machine.specs.Kept.{best_of}
-use Rattle.core_replay.specs.Replayed.{IsResumable, start_of}
+use Rattle.core_machine.specs.Left.{IsLeftAfter}
 
 -- what workers need that go on from a run
 pub record CanResume (ranked : RankedOrders) (charges : ChargeTable) (nodes workers : ℕ)
@@ -24,8 +22,7 @@ pub record CanResume (ranked : RankedOrders) (charges : ChargeTable) (nodes work
   pub numbers : AllByRecursion (λ (number : ℕ). number < workers) schedule
 
 -- With the unclosed paths of the given run in deque 0, its loss and its number of tickets, workers
--- made the events of a schedule, then rounds to their end. Its pieces come first, then those of the
--- workers.
+-- made the events of a schedule, then rounds to their end, and left the run, with the least loss.
 pub record IsResumed (ranked : RankedOrders) (charges : ChargeTable) (nodes workers : ℕ)
     (schedule : List ℕ) (given run : Run) : Type 0 where
   pub last : Core
@@ -34,8 +31,5 @@ pub record IsResumed (ranked : RankedOrders) (charges : ChargeTable) (nodes work
       (after_schedule ranked charges nodes
       (first_state workers (length ranked.placed) given.loss given.drawn given.unclosed.items)
       schedule) last
-  pub pieces : records_of run ≡ records_of given ++ pieces_of last
-  pub unclosed : run.unclosed.items ≡ unclosed_of last
-  pub best : start_of run ≡ best_of (start_of given) last.workers
+  pub left : IsLeftAfter given last run
   pub loss : run.loss ≡ last.shared.least
-  pub drawn : run.drawn ≡ last.shared.drawn

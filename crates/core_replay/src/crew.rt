@@ -5,12 +5,12 @@ ghost use Rattle.std.specs.List.{AllByRecursion};
 ghost use Rattle.mill_model.specs.Charges.{Reaches};
 ghost use Rattle.order_symmetry.specs.Ranked.{orders_of};
 ghost use Rattle.search_step.specs.Promise.{records_of};
+ghost use Rattle.search_step.specs.Resumable.{start_of};
 ghost use Rattle.search_step.specs.Serving.{IsPathOf};
 ghost use Rattle.core_machine.specs.Core.{pieces_of, unclosed_by, unclosed_of};
 ghost use Rattle.core_machine.specs.Kept.{best_of, better_of};
 ghost use Rattle.core_replay.specs.Crew.{crew_with, entries_of, parts_of};
 ghost use Rattle.core_replay.specs.Crew.{with_all_given, with_given};
-ghost use Rattle.core_replay.specs.Replayed.{start_of};
 
 use crate::plain_hand::PlainHand;
 use mill_model::{Charges, Limits, OutOfMemory, Path, Start};

@@ -1,6 +1,6 @@
 ghost use Rattle.std.specs.Prelude.{◌≡◌, ◌+◌, IfOk, length};
 ghost use Rattle.search_step.specs.Promise.{IsRun, records_of};
-ghost use Rattle.core_replay.specs.Replayed.{GoesOnFrom};
+ghost use Rattle.search_step.specs.Resumable.{GoesOnFrom};
 ghost use Rattle.core_replay.specs.Resumed.{CanResume, IsResumed};
 
 use crate::crew::Crew;

@@ -6,7 +6,8 @@ ghost use Rattle.mill_model.specs.declared.limits.TheConstants.{MAX_NODES};
 ghost use Rattle.order_symmetry.specs.Ranked.{orders_of};
 ghost use Rattle.search_step.specs.Honest.{IsKept};
 ghost use Rattle.search_step.specs.Promise.{IsRun, IsThrifty, EachSplitsAnew, records_of};
-ghost use Rattle.core_replay.specs.Replayed.{GoesOnFrom, IsLeftBy, IsResumable};
+ghost use Rattle.search_step.specs.Resumable.{GoesOnFrom, IsResumable};
+ghost use Rattle.core_replay.specs.Replayed.{IsLeftBy};
 
 use crate::going_on::resume;
 use mill_model::{Charges, Limits, OutOfMemory, Path, Start};

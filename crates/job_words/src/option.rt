@@ -29,10 +29,8 @@ pub enum Scope {
     Every,
     /// Those that search.
     Searching,
-    /// The one that replays a schedule.
-    Replaying,
-    /// None yet: the option is planned only, and nothing but the usage line has it.
-    Planned,
+    /// The one that makes its instance.
+    Drilling,
 }
 
 /// What the language of words says of an option.
@@ -52,7 +50,7 @@ pub const WORKERS: Rule = Rule {
     least: 1,
     greatest: 64,
     default: 1,
-    scope: Scope::Replaying,
+    scope: Scope::Searching,
 };
 
 /// How many paths a search closes at most.
@@ -88,7 +86,7 @@ pub const SEED: Rule = Rule {
     least: 0,
     greatest: 4_294_967_295,
     default: 1,
-    scope: Scope::Planned,
+    scope: Scope::Drilling,
 };
 
 /// How many orders a generated instance has.
@@ -97,7 +95,7 @@ pub const ORDERS: Rule = Rule {
     least: 0,
     greatest: 1024,
     default: 40,
-    scope: Scope::Planned,
+    scope: Scope::Drilling,
 };
 
 /// The options, in the order of the usage line.
@@ -120,11 +118,8 @@ impl Command {
     {
         match scope {
             Scope::Every => true,
-            Scope::Searching => {
-                matches!(self, Command::Solve | Command::Prove | Command::Replay)
-            }
-            Scope::Replaying => matches!(self, Command::Replay),
-            Scope::Planned => false,
+            Scope::Searching => !matches!(self, Command::Check | Command::Verify),
+            Scope::Drilling => matches!(self, Command::Drill),
         }
     }
 }

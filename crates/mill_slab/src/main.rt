@@ -1,8 +1,8 @@
-//! Serves the words that it is given: hands them, standard input and standard output to the top
-//! call over streams, and ends with its status.
+//! Serves the words that it is given: hands them, standard input, standard output and a gate that
+//! holds no worker to the top call over streams, and ends with its status.
 #![tactic(auto)]
 
-use slab_top::run_streams;
+use slab_top::{OpenGate, run_streams};
 use std::env;
 use std::process::ExitCode;
 
@@ -18,6 +18,14 @@ fn main(rt: HostRuntime) -> ExitCode {
         return ExitCode::from(NO_WORDS);
     };
     let mut kept = None;
-    let end = run_streams(alloc, &words, rt.stdin(), rt.stdout(), &mut kept);
+    let end = run_streams(
+        &rt,
+        alloc,
+        &words,
+        rt.stdin(),
+        rt.stdout(),
+        &OpenGate,
+        &mut kept,
+    );
     ExitCode::from(end.status)
 }

@@ -2,4 +2,5 @@ pub mod Told
 pub mod Refusal
 pub mod Stop
 pub mod Judgement
+pub mod Summary
 pub mod Outcome

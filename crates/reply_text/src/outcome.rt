@@ -2,7 +2,8 @@ ghost use Rattle.std.specs.Prelude.{◌≡◌, IfOk};
 ghost use Rattle.reply_text.specs.Outcome.{run_of, status_of, status_of_answer, text_of, IsToTell};
 
 use crate::{
-    ACCEPTED, FEASIBLE, INFEASIBLE, Judgement, OPTIMAL, REFUSED, REJECTED, Refusal, Reply, Solution,
+    ACCEPTED, FEASIBLE, INFEASIBLE, Judgement, OPTIMAL, REFUSED, REJECTED, Refusal, Reply,
+    Solution, Summary,
 };
 use answer_text::{Answer, print_answer};
 use mill_model::OutOfMemory;
@@ -19,6 +20,8 @@ pub enum Outcome {
     Solved(Solution),
     /// What is said of the answer that was given.
     Judged(Judgement),
+    /// What came of the search of an instance that was made.
+    Drilled(Summary),
 }
 
 impl Outcome {
@@ -31,6 +34,7 @@ impl Outcome {
             Outcome::Solved(solution) => answer_status(&solution.answer),
             Outcome::Judged(judgement) if judgement.is_accepted() => ACCEPTED,
             Outcome::Judged(_) => REJECTED,
+            Outcome::Drilled(summary) => summary.ending.status(),
         }
     }
 
@@ -53,6 +57,11 @@ impl Outcome {
                 text.push(b'\n')?;
                 Ok(text)
             }
+            Outcome::Drilled(summary) => {
+                let mut text = Vec::new(alloc);
+                summary.push_lines(&mut text)?;
+                Ok(text)
+            }
         }
     }
 
@@ -66,12 +75,13 @@ impl Outcome {
         Ok(Reply::new(self.status(), text))
     }
 
-    /// The run behind an answer, where one is handed out.
+    /// The run behind an answer or a summary, where one is handed out.
     pub fn into_run(self) -> Option<Run>
         ensures { result ≡ run_of self }
     {
         match self {
             Outcome::Solved(solution) => solution.run,
+            Outcome::Drilled(summary) => summary.ending.into_run(),
             Outcome::Refused(_) | Outcome::Judged(_) => None,
         }
     }

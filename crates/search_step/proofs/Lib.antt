@@ -15,3 +15,5 @@ pub mod SplitRecords
 pub mod OneMoreRecord
 pub mod HonestClosing
 pub mod StaysHonest
+pub mod StaysFit
+pub mod GoingOn

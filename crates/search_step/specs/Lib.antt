@@ -7,3 +7,4 @@ pub mod Accounts
 pub mod Worker
 pub mod Honest
 pub mod Promise
+pub mod Resumable

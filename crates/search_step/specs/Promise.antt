@@ -20,6 +20,10 @@ use Rattle.search_step.specs.Steps.{task_at}
 abbrev pub records_of : Run → List (List Entry)
 records_of run = map (λ piece. piece.entries) run.pieces.items
 
+-- each record of a piece has the lengths and numbers that a record of a log may have
+abbrev pub AllFit : RankedOrders → List Entry → Type 0
+AllFit ranked piece = AllByRecursion (λ entry. fits (length ranked.placed) entry ≡ true) piece
+
 -- What a run keeps that began with a plan that loses so much, and had so many tickets: no path is
 -- lost or recorded twice, each record is sound for the run's loss, which its plan loses, each
 -- ticket is a record, and a path is left only where tickets wanted.

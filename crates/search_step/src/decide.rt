@@ -1,5 +1,4 @@
-// How a path is closed. All that may want memory is done here, and nothing is changed.
-
+//! How a path is closed. All that may want memory is done here, and nothing is changed.
 ghost use Rattle.std.specs.Prelude.{◌≡◌, ◌<◌, ◌≤◌, IfOk, length, All, int_lt, pos, ◌*ℤ◌, ◌-ℤ◌};
 ghost use Rattle.mill_model.specs.Charges.{Reaches, charge_of};
 ghost use Rattle.order_symmetry.specs.Ranked.{orders_of};

@@ -1,3 +1,4 @@
+//! The hand of a worker: its calls on the outside, and what each of them did.
 ghost use Rattle.std.specs.Prelude.{◌≡◌, ◌≢◌, ◌<◌, ℕ, Bool, true, List, Option, Result, IfSome};
 ghost use Rattle.std.specs.Prelude.{MatchResult};
 ghost use Rattle.search_step.specs.declared.event.Event.{Event};

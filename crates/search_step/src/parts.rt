@@ -1,3 +1,4 @@
+//! What a worker is about to do, what became of a step, and how a path is closed.
 ghost use Rattle.std.specs.Prelude.{ℕ, List};
 
 use mill_model::{Path, Prices, Start};

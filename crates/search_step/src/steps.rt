@@ -1,3 +1,4 @@
+//! One step of a worker, by its phase.
 ghost use Rattle.std.specs.Prelude.{◌≡◌, ◌≢◌, ◌≤◌, ◌<◌, true, ℕ};
 ghost use Rattle.mill_model.specs.Charges.{ChargeTable};
 ghost use Rattle.order_symmetry.specs.Ranked.{RankedOrders};

@@ -1,3 +1,4 @@
+//! What a worker has: paths to close, records, notes and the best plan; and how steps change it.
 ghost use Rattle.std.specs.Prelude.{◌≡◌, ◌≢◌, ◌≤◌, ◌<◌, ◌∷◌, ◌++◌, ℕ, List, All, true, Some, None};
 ghost use Rattle.std.specs.Prelude.{OnOk, OnErr, option_copied};
 ghost use Rattle.std.specs.List.{AllByRecursion};

@@ -1,3 +1,4 @@
+//! A worker for its callers: how it is made, its steps, and what it leaves at its end.
 ghost use Rattle.std.specs.Prelude.{◌≡◌, ◌<◌, ◌≤◌, All, length, option_copied};
 ghost use Rattle.mill_model.specs.Charges.{Reaches};
 ghost use Rattle.order_symmetry.specs.Ranked.{orders_of};

@@ -1,10 +1,13 @@
 mod Behind
 mod Stages
 mod Replying
+mod Limit
+mod Drilling
 mod Stopped
 mod EachCommand
 mod Rights
 mod Given
+mod Courses
 mod MoreBehind
 mod ReadBehind
 mod BothHalves

@@ -13,6 +13,7 @@ use Rattle.job_words.specs.declared.job.Job.{Job}
 use Rattle.reply_text.specs.declared.judgement.Judgement.TheVariants.{Legal, Verified, Confirmed}
 use Rattle.reply_text.specs.declared.outcome.Outcome.TheVariants.{Judged}
 use Rattle.reply_text.specs.declared.refusal.Refusal.TheVariants.{AnswerKind}
+use Rattle.solve_answer.specs.Course.{Course}
 use Rattle.solve_answer.specs.Solved.{IsSolution, IsProved}
 use Rattle.judge_answer.specs.Check.{IsSaidOf}
 use Rattle.judge_answer.specs.Verify.{IsVerified}
@@ -77,13 +78,13 @@ module _ (limits : Limits) (problem : Problem) where
       inr ((problem, answer), reads, said-of-told answer right)
 
   -- of an optimal plan the log refutes its loss, and a feasible one has no log
-  pub verifies-proved : (schedule : List ℕ) (job : Job) (bytes : List ℕ) (answer : Answer)
+  pub verifies-proved : (course : Course) (job : Job) (bytes : List ℕ) (answer : Answer)
       (run : Option Run) → (instance_with_answer job.p bytes).Reads (problem, answer) →
-      IsProved limits schedule problem (record { answer = answer; run = run }) →
+      IsProved limits course problem (record { answer = answer; run = run }) →
       Verifies job bytes (verified_as answer)
-  verifies-proved schedule job bytes (Optimal loss plan None) run reads proved =
+  verifies-proved course job bytes (Optimal loss plan None) run reads proved =
       absurd proved.log
-  verifies-proved schedule job bytes (Optimal loss plan (Some log)) run reads proved =
+  verifies-proved course job bytes (Optimal loss plan (Some log)) run reads proved =
       let answer = Optimal loss plan (Some log) in
       let best = proved.told.solution.1 in
       let verified : IsVerified problem loss plan log.entries loss = record {
@@ -97,9 +98,9 @@ module _ (limits : Limits) (problem : Problem) where
         ((problem, answer), reads, (refl, λ nothing. nothing)),
         (Verified loss, refl, verified),
       )
-  verifies-proved schedule job bytes (Feasible loss plan spent) run reads proved =
+  verifies-proved course job bytes (Feasible loss plan spent) run reads proved =
       inl (AnswerKind, refl, inr ((problem, Feasible loss plan spent), reads, (refl, tt)))
-  verifies-proved schedule job bytes (Infeasible order) run reads proved =
+  verifies-proved course job bytes (Infeasible order) run reads proved =
       inr (
         (problem, Infeasible order),
         ((problem, Infeasible order), reads, (refl, λ nothing. nothing)),

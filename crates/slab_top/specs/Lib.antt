@@ -1,11 +1,13 @@
 pub mod Stage
 pub mod Input
 pub mod Reply
+pub mod Threads
 pub mod Solve
 pub mod Prove
 pub mod Replay
 pub mod Check
 pub mod Verify
+pub mod Drill
 pub mod Served
 pub mod Agree
 pub mod Run

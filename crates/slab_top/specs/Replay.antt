@@ -3,6 +3,7 @@ use Rattle.std.specs.Prelude.{ℕ, List}
 use Rattle.job_words.specs.declared.job.Job.{Job}
 use Rattle.reply_text.specs.declared.outcome.Outcome.{Outcome}
 use Rattle.reply_text.specs.declared.outcome.Outcome.TheVariants.{Solved}
+use Rattle.solve_answer.specs.Course.{Scheduled}
 use Rattle.solve_answer.specs.Solved.{IsProved}
 use Rattle.slab_top.specs.Input.{instance_with_schedule}
 use Rattle.slab_top.specs.Reply.{Replies, Tells}
@@ -10,4 +11,4 @@ use Rattle.slab_top.specs.Reply.{Replies, Tells}
 abbrev pub Replays : Job → List ℕ → Outcome → Type 0
 Replays job bytes =
     Replies (instance_with_schedule job.p job.limits.workers bytes)
-    (λ read. Tells Solved (IsProved job.limits read.1 read.0))
+    (λ read. Tells Solved (IsProved job.limits (Scheduled read.1) read.0))

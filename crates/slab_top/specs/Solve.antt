@@ -6,8 +6,9 @@ use Rattle.reply_text.specs.declared.outcome.Outcome.TheVariants.{Solved}
 use Rattle.solve_answer.specs.Solved.{IsSolved}
 use Rattle.slab_top.specs.Input.{instance_alone}
 use Rattle.slab_top.specs.Reply.{Replies, Tells}
+use Rattle.slab_top.specs.Threads.{course_of}
 
 abbrev pub Solves : Job → List ℕ → Outcome → Type 0
 Solves job bytes =
     Replies (instance_alone job.p bytes)
-    (λ problem. Tells Solved (IsSolved job.limits problem))
+    (λ problem. Tells Solved (IsSolved job.limits (course_of job.limits) problem))

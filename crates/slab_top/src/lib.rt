@@ -4,10 +4,15 @@
 mod commands;
 mod front;
 mod laws;
-mod run;
+mod plain;
+mod searcher;
+mod serving;
 mod streams;
+mod top;
 
 pub use job_words::{Command, Job, Usage, read_words};
 pub use laws::{answer_is_checked, proved_is_verified};
-pub use run::run_plain;
+pub use plain::run_plain;
+pub use steal_workers::{Gate, OpenGate};
 pub use streams::{RunEnd, run_streams};
+pub use top::{needs_threads, run};

@@ -9,13 +9,16 @@ ghost use Rattle.reply_text.specs.declared.status.TheConstants.{OUT_OF_MEMORY};
 ghost use Rattle.slab_top.specs.Served.{IsRight, Output, run_of, status_of, text_of};
 ghost use Rattle.slab_top.specs.Agree.{MayEndWith};
 ghost use Rattle.slab_top.specs.Given.{IsServedWhole};
-ghost use Rattle.slab_top.specs.Run.{HasEnough, IsAnswered, IsStatus};
+ghost use Rattle.slab_top.specs.Run.{AskForNoInput, HasEnough, IsAnswered, IsStatus};
 
-use crate::run::run_plain;
+use crate::top::run;
 use mill_io::{StdSink, StdSource};
 use refute_log::Run;
 use std::alloc::Global;
 use std::io::{Read, Write};
+use std::sync::Wait;
+use std::thread::Threads;
+use steal_workers::Gate;
 
 /// What a run over a reader and a writer leaves: the two streams, which tell the bytes that passed,
 /// and the status that the program ends with.
@@ -31,13 +34,15 @@ pub struct RunEnd<R: Read, W: Write> {
 
 /// Serves what the words ask for, from any reader of std to any writer of std. No clause can say
 /// what the real input and output hold, so these speak of the bytes that the reads gave and the
-/// writes took. The statuses are those of [`run_plain`]. Nothing is flushed, so the writer is to be
-/// one that keeps no bytes back.
-pub fn run_streams<R: Read, W: Write>(
+/// writes took. Statuses, threads and the gate are those of [`run`]. Nothing is flushed, so the
+/// writer is to be one that keeps no bytes back.
+pub fn run_streams<H: Threads + Wait + Sync, R: Read, W: Write, G: Gate>(
+    rt: &H,
     alloc: Global,
     words: &[String],
     reader: R,
     writer: W,
+    gate: &G,
     kept: &mut Option<Run>,
 ) -> RunEnd<R, W>
     // Unless something failed, the status, all that the writer took and the run that is handed out
@@ -61,11 +66,9 @@ pub fn run_streams<R: Read, W: Write>(
     ensures enough { HasEnough (texts words.now) (bytes_given result.source)
         → result.status ≢ FEASIBLE }
 
-    // Where the words ask for nothing, the reader is as it was.
-    ensures unread { ((job : Job) → AskFor (texts words.now) job → ⊥)
-        → bytes_given result.source ≡ [] }
-    ensures untouched { ((job : Job) → AskFor (texts words.now) job → ⊥)
-        → reader_of result.source ≡ reader }
+    // Where the words ask for nothing, or for what reads nothing, the reader is as it was.
+    ensures unread { AskForNoInput (texts words.now) → bytes_given result.source ≡ [] }
+    ensures untouched { AskForNoInput (texts words.now) → reader_of result.source ≡ reader }
     ensures known { IsStatus result.status }
 
     // The statuses of the two faults come exactly where a stream counted a fault.
@@ -92,7 +95,7 @@ pub fn run_streams<R: Read, W: Write>(
 {
     let mut source = StdSource::new(reader);
     let mut sink = StdSink::new(writer);
-    let status = run_plain(alloc, words, &mut source, &mut sink, kept);
+    let status = run(rt, alloc, words, &mut source, &mut sink, gate, kept);
     RunEnd {
         source,
         sink,

@@ -1,6 +1,6 @@
 //! Each fault of a reader or a writer of std is told, in the middle of a stream too.
 
-use slab_top::run_streams;
+use slab_top::{OpenGate, run_streams};
 use std::io;
 use std::io::{Read, Write};
 use std::test::Fail;
@@ -66,7 +66,9 @@ fn each_failing_read_is_told(rt: HostRuntime) -> Result<(), Fail> {
         };
         let mut held = Vec::new(alloc);
         let mut kept = None;
-        let status = run_streams(alloc, &words, reader, &mut held, &mut kept).status;
+        let status = run_streams(
+            &rt, alloc, &words, reader, &mut held, &OpenGate, &mut kept,
+        ).status;
         let want: (u8, &[u8]) = if failing < 13 {
             (5, b"")
         } else {
@@ -95,7 +97,7 @@ fn each_lack_of_room_is_told(rt: HostRuntime) -> Result<(), Fail> {
                 room,
             };
             let mut kept = None;
-            let found = run_streams(alloc, &words, input, writer, &mut kept).status;
+            let found = run_streams(&rt, alloc, &words, input, writer, &OpenGate, &mut kept).status;
             let want = if room < text.len() { 6 } else { status };
             assert_eq!(rt; found, want, "{room}");
             assert_eq!(rt; held.as_slice(), &text[..room], "{room}");
@@ -114,7 +116,16 @@ fn a_usage_line_is_cut(rt: HostRuntime) -> Result<(), Fail> {
     for room in 0..text.len() {
         let mut held = [0; 256];
         let mut kept = None;
-        let status = run_streams(alloc, &[], input, &mut held[..room], &mut kept).status;
+        let status = run_streams(
+            &rt,
+            alloc,
+            &[],
+            input,
+            &mut held[..room],
+            &OpenGate,
+            &mut kept,
+        )
+        .status;
         assert_eq!(rt; status, 6, "{room}");
         assert_eq!(rt; &held[..room], &text[..room], "{room}");
     }

@@ -5,12 +5,15 @@ use crate::least::least_loss;
 use instance_text::read_instance;
 use mill_io::{MemSink, MemSource};
 use mill_model::OutOfMemory;
-use slab_top::run_plain;
+use slab_top::{OpenGate, run};
 use std::alloc::Global;
+use std::sync::Wait;
 use std::test::Fail;
+use std::thread::Threads;
 
 // The status and the text for a command and its options, a number of colours and an input.
-fn answered(
+fn answered<R: Threads + Wait + Sync>(
+    rt: &R,
     alloc: Global,
     command: &str,
     colours: &str,
@@ -25,7 +28,15 @@ fn answered(
     let mut source = MemSource::new(alloc, input, 4096, &[])?;
     let mut sink = MemSink::new(alloc, 4096, &[])?;
     let mut kept = None;
-    let status = run_plain(alloc, &words, &mut source, &mut sink, &mut kept);
+    let status = run(
+        rt,
+        alloc,
+        &words,
+        &mut source,
+        &mut sink,
+        &OpenGate,
+        &mut kept,
+    );
     Ok((status, sink.bytes().to_vec(alloc)?))
 }
 
@@ -44,7 +55,8 @@ fn grid_text(alloc: Global, orders: u32, code: u32) -> Result<Vec<u8>, OutOfMemo
 
 // Whether what a command answers to an instance with this text behind it loses what the best of all
 // plans loses, and is verified.
-fn is_right(
+fn is_right<R: Threads + Wait + Sync>(
+    rt: &R,
     alloc: Global,
     command: &str,
     behind: &[u8],
@@ -56,10 +68,10 @@ fn is_right(
     let colours = format!(in alloc; "{p}")?;
     let mut asked = input.to_vec(alloc)?;
     asked.extend_from_slice(behind)?;
-    let (status, answer) = answered(alloc, command, &colours, &asked)?;
+    let (status, answer) = answered(rt, alloc, command, &colours, &asked)?;
     let mut judged = input.to_vec(alloc)?;
     judged.extend_from_slice(&answer)?;
-    let (verified, line) = answered(alloc, "verify", &colours, &judged)?;
+    let (verified, line) = answered(rt, alloc, "verify", &colours, &judged)?;
 
     let Ok((instance, _)) = read_instance(alloc, input, p) else {
         return Ok(false);
@@ -82,7 +94,7 @@ fn proves_the_least_loss_and_verifies_it(rt: HostRuntime) -> Result<(), Fail> {
         for code in 0..codes {
             let input = grid_text(alloc, orders, code)?;
             for p in 1..4 {
-                let right = is_right(alloc, "prove --moves 9", b"", &input, p)?;
+                let right = is_right(&rt, alloc, "prove --moves 9", b"", &input, p)?;
                 assert!(rt; right, "{orders} {code} {p}");
             }
         }
@@ -99,8 +111,25 @@ fn replays_to_the_least_loss_and_verifies_it(rt: HostRuntime) -> Result<(), Fail
         for code in 0..codes {
             let input = grid_text(alloc, orders, code)?;
             for p in 1..4 {
-                let right = is_right(alloc, "replay --workers 2", schedule, &input, p)?;
+                let right = is_right(&rt, alloc, "replay --workers 2", schedule, &input, p)?;
                 assert!(rt; right, "{orders} {code} {p}");
+            }
+        }
+    }
+    Ok(())
+}
+
+// Up to three orders, by workers in threads: few of them, and many more than there are paths.
+#[test]
+fn proves_in_threads_and_verifies_it(rt: HostRuntime) -> Result<(), Fail> {
+    let alloc = rt.alloc();
+    for workers in ["2", "3", "4", "8", "64"] {
+        let words = format!(in alloc; "prove --workers {workers}")?;
+        for (orders, codes) in [(0, 1), (1, 4), (2, 16), (3, 64)] {
+            for code in 0..codes {
+                let input = grid_text(alloc, orders, code)?;
+                let right = is_right(&rt, alloc, &words, b"", &input, 2)?;
+                assert!(rt; right, "{workers} {orders} {code}");
             }
         }
     }

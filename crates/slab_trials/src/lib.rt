@@ -10,3 +10,5 @@ mod grid;
 mod kept;
 #[cfg(test)]
 mod least;
+#[cfg(test)]
+mod threads;

@@ -9,6 +9,7 @@ use Rattle.std.proofs.lemmas.List.Elements.{All-from_recursion, recursion_from_A
 use Rattle.std.proofs.lemmas.List.Sorted.{All-permutation, length_permutation}
 use Rattle.std.proofs.lemmas.Option.{slice_get_within}
 use Rattle.mill_model.specs.Best.{IsTidyPlan}
+use Rattle.mill_model.specs.Charges.{ChargeTable}
 use Rattle.mill_model.specs.Conserved.{joined, IsConserved}
 use Rattle.mill_model.specs.Heavy.{NoneHeavy, IsFirstHeavy}
 use Rattle.mill_model.specs.Instance.{Problem, IsInstance, largest, mill_of, loss_charge}
@@ -27,6 +28,7 @@ use Rattle.mill_laws.proofs.PlanLaws.{canonical-form-loses-the-same}
 use Rattle.mill_laws.proofs.Ranked.{ranked-count}
 use Rattle.mill_laws.proofs.RunLaws.{pieces-refute}
 use Rattle.mill_laws.proofs.TreeLaws.{tree-has-at-most}
+use Rattle.order_symmetry.specs.Ranked.{RankedOrders}
 use Rattle.refute_log.specs.Fits.{fits}
 use Rattle.refute_log.specs.Logged.{Logged, IsLog}
 use Rattle.refute_log.specs.declared.piece.Run.{Run}
@@ -34,9 +36,10 @@ use Rattle.answer_text.specs.Text.{Fits, most_orders}
 use Rattle.answer_text.specs.declared.answer.Answer.TheVariants.{Optimal, Feasible, Infeasible}
 use Rattle.answer_text.proofs.Printed.{may-print, read-back}
 use Rattle.reply_text.specs.declared.solution.Solution.{Solution}
-use Rattle.search_step.specs.Promise.{records_of, EachSplitsAnew}
+use Rattle.search_step.specs.Promise.{records_of}
 use Rattle.piece_merge.specs.Merging.{IsCompleteLogOf, NamesSettledPaths}
-use Rattle.solve_answer.specs.Searched.{loss_task, HasStopped}
+use Rattle.solve_answer.specs.Course.{Course, Scheduled, Running}
+use Rattle.solve_answer.specs.Searched.{loss_task, ArePiecesOf, IsLeftOf, HasStopped}
 use Rattle.solve_answer.specs.Solved.{IsSpent, IsRefutation, IsTold}
 use Rattle.solve_answer.specs.Search.{HasSearched}
 use Rattle.solve_answer.proofs.LossLimit.{optimal-fits, feasible-fits}
@@ -50,8 +53,16 @@ none-by-length (x ∷ xs) count = absurd (omega (arith, count))
 pub some-by-length : {X : Type 0} (xs : List X) → 0 < length xs → xs ≢ []
 some-by-length xs some none = omega (arith, some, ap length none)
 
-module _ (limits : Limits) (schedule : List ℕ) (problem : Problem) (run : Run)
-    (has : HasSearched limits schedule problem run) where
+-- the records of a run are those of the pieces of its search
+left-pieces : (limits : Limits) (course : Course) (ranked : RankedOrders) (charges : ChargeTable)
+    (loss : ℕ) (run : Run) → IsLeftOf course ranked charges limits loss run →
+    ArePiecesOf course ranked charges limits loss (records_of run)
+left-pieces limits (Scheduled schedule) ranked charges loss run left =
+    (left.last, left.is, left.pieces)
+left-pieces limits Running ranked charges loss run left = tt
+
+module _ (limits : Limits) (course : Course) (problem : Problem) (run : Run)
+    (has : HasSearched limits course problem run) where
   abbrev records : List Entry
   records = joined (records_of run)
 
@@ -100,7 +111,7 @@ module _ (limits : Limits) (schedule : List ℕ) (problem : Problem) (run : Run)
               (may_split (loss_task problem) has.thrifty.bound)),
         )
 
-    run-stopped : HasStopped limits schedule problem run.loss (canonical run.plan) run
+    run-stopped : HasStopped limits course problem run.loss (canonical run.plan) run
     run-stopped = record {
       conserved = has.conserved;
       each_sound = has.each_sound;
@@ -109,7 +120,7 @@ module _ (limits : Limits) (schedule : List ℕ) (problem : Problem) (run : Run)
       count = whole-budget;
       left = some;
       thrifty = has.thrifty;
-      core_run = has.core_run;
+      of_a_search = has.of_a_search;
     }
 
     is-spent : IsSpent limits problem run.loss (canonical run.plan) limits.nodes
@@ -131,7 +142,7 @@ module _ (limits : Limits) (schedule : List ℕ) (problem : Problem) (run : Run)
 
     pub stopped-told : IsInstance problem →
         NoneHeavy (largest problem.sizes) problem.orders → limits.nodes ≤ MAX_NODES →
-        IsTold limits schedule problem (record {
+        IsTold limits course problem (record {
           answer = Feasible run.loss (canonical run.plan) limits.nodes;
           run = Some run;
         })
@@ -160,7 +171,7 @@ module _ (limits : Limits) (schedule : List ℕ) (problem : Problem) (run : Run)
     pub best-told : IsInstance problem → NoneHeavy (largest problem.sizes) problem.orders →
         (log : Option Logged) → IfSome log (λ log. log.orders ≡ length problem.orders) →
         IfSome log IsLog →
-        IsTold limits schedule problem (record {
+        IsTold limits course problem (record {
           answer = Optimal run.loss (canonical run.plan) log;
           run = None;
         })
@@ -181,10 +192,9 @@ module _ (limits : Limits) (schedule : List ℕ) (problem : Problem) (run : Run)
 
     pub log-refutes : (log : List Entry) → IsPermutation records log →
         IsCompleteLogOf (records_of run) log → NamesSettledPaths log →
-        IsRefutation limits schedule problem run.loss log
+        IsRefutation limits course problem run.loss log
     log-refutes log moved complete named =
         let count = has.count in
-        let left = has.core_run.left in
         record {
           refutes = record {
             complete = complete.complete (loss_task problem) whole;
@@ -201,24 +211,24 @@ module _ (limits : Limits) (schedule : List ℕ) (problem : Problem) (run : Run)
             so = each-moved (λ entry. splits_thriftily (loss_task problem) has.thrifty.bound
                 entry.path entry.closing ≡ true) log moved has.thrifty.so;
           };
-          core_run = record {
-            ranked = has.core_run.ranked;
-            charges = has.core_run.charges;
-            loss = has.core_run.loss;
-            begins = has.core_run.begins;
-            last = left.last;
-            is = left.is;
-            anew = subst (λ pieces. EachSplitsAnew has.core_run.ranked has.core_run.charges pieces)
-                left.pieces has.core_run.anew;
-            records = subst (λ pieces. IsPermutation (joined pieces) log) left.pieces moved;
+          of_a_search = record {
+            ranked = has.of_a_search.ranked;
+            charges = has.of_a_search.charges;
+            loss = has.of_a_search.loss;
+            begins = has.of_a_search.begins;
+            pieces = records_of run;
+            are = left-pieces limits course has.of_a_search.ranked has.of_a_search.charges
+                has.of_a_search.loss run has.of_a_search.left;
+            records = moved;
+            anew = has.of_a_search.anew;
           };
         }
 
 -- An answer without a plan names the first order that is too heavy.
-pub infeasible-told : (limits : Limits) (schedule : List ℕ) (problem : Problem) (place : ℕ) →
+pub infeasible-told : (limits : Limits) (course : Course) (problem : Problem) (place : ℕ) →
     IsInstance problem → IsFirstHeavy problem place →
-    IsTold limits schedule problem (record { answer = Infeasible place; run = None })
-infeasible-told limits schedule problem place instance first =
+    IsTold limits course problem (record { answer = Infeasible place; run = None })
+infeasible-told limits course problem place instance first =
     let inside = slice_get_within problem.orders place first.order first.here in
     record {
       solution = first;
@@ -229,8 +239,8 @@ infeasible-told limits schedule problem place instance first =
     }
 
 -- what is told can be printed
-pub told-fits : (limits : Limits) (schedule : List ℕ) (problem : Problem) (told : Solution) →
-    IsInstance problem → IsTold limits schedule problem told →
+pub told-fits : (limits : Limits) (course : Course) (problem : Problem) (told : Solution) →
+    IsInstance problem → IsTold limits course problem told →
     Fits (most_orders told.answer) told.answer
-told-fits limits schedule problem told instance is =
+told-fits limits course problem told instance is =
     may-print (length problem.orders) told.answer instance.within.few_orders is.reads_back.fits

@@ -1,4 +1,4 @@
--- What a replay leaves of a problem's tree. It goes by ranked orders and a table of charges; as
+-- What a search leaves of a problem's tree. It goes by ranked orders and a table of charges; as
 -- these are the problem's, all is said of the problem.
 use Rattle.std.proofs.Common.{◌≡◌, ℕ, ◌≤◌, List, true, length, ap, ◌∙◌, map, subst, arith}
 use Rattle.mill_model.specs.Best.{IsStartOf}
@@ -24,8 +24,8 @@ use Rattle.refute_log.specs.declared.piece.Run.{Run}
 use Rattle.search_step.specs.Honest.{IsKept}
 use Rattle.search_step.specs.Promise.{records_of, IsRun, IsThrifty, EachSplitsAnew}
 use Rattle.search_step.specs.Steps.{task_at}
-use Rattle.core_replay.specs.Replayed.{IsLeftBy}
-use Rattle.solve_answer.specs.Searched.{loss_task, OfStartBound, IsOfACoreRun}
+use Rattle.solve_answer.specs.Course.{Course}
+use Rattle.solve_answer.specs.Searched.{loss_task, OfStartBound, IsLeftOf, IsOfASearch}
 use Rattle.solve_answer.specs.Search.{HasSearched}
 use Rattle.solve_answer.proofs.Thrift.{thrifty-more}
 
@@ -45,14 +45,14 @@ task-is problem ranked charges rank table =
     ∙ ap (λ placed. make (mill_of problem) (loss_charge problem.sizes)
     (map (λ it. it.order) placed)) rank.placed
 
-module _ (limits : Limits) (schedule : List ℕ) (problem : Problem) (ranked : RankedOrders)
+module _ (limits : Limits) (course : Course) (problem : Problem) (ranked : RankedOrders)
     (charges : ChargeTable) (start : Start) (run : Run) (rank : IsRankOf problem ranked)
     (table : AreCharges problem charges) (begins : IsKept ranked charges start)
     (possible : IsPossibleStart (mill_of problem) (loss_charge problem.sizes) problem.orders
     limits.moves start.plan) (is : IsRun ranked charges start.loss limits.nodes run)
     (thrifty : IsThrifty ranked charges start.loss run)
     (anew : EachSplitsAnew ranked charges (records_of run))
-    (left : IsLeftBy ranked charges limits.nodes limits.workers start.loss schedule run) where
+    (left : IsLeftOf course ranked charges limits start.loss run) where
   same-task : task_at ranked charges ≡ loss_task problem
   same-task = task-is problem ranked charges rank table
 
@@ -88,8 +88,8 @@ module _ (limits : Limits) (schedule : List ℕ) (problem : Problem) (ranked : R
   of-bound : (IsSo : ℕ → Type 0) → IsSo bound.0 → OfStartBound problem limits.moves IsSo
   of-bound IsSo so = record { bound = bound.0; is_bound = bound.1; so = so }
 
-  core-run : IsOfACoreRun limits schedule problem run
-  core-run = record {
+  of-a-search : IsOfASearch limits course problem run
+  of-a-search = record {
     ranked = ranked;
     charges = charges;
     loss = start.loss;
@@ -108,7 +108,7 @@ module _ (limits : Limits) (schedule : List ℕ) (problem : Problem) (ranked : R
       (record { plan = run.plan; loss = run.loss })
   run-plan = of-problem run.plan run.loss (is.plan problem.orders rank.placed)
 
-  pub has-searched : HasSearched limits schedule problem run
+  pub has-searched : HasSearched limits course problem run
   has-searched = record {
     conserved = subst (λ task. IsConserved task (records_of run) run.unclosed.items) same-task
         is.conserved;
@@ -124,7 +124,7 @@ module _ (limits : Limits) (schedule : List ℕ) (problem : Problem) (ranked : R
         thrifty.thrifty));
     count = is.count;
     left = is.left;
-    core_run = core-run;
+    of_a_search = of-a-search;
   }
     where
       count : length ranked.placed ≡ length problem.orders

@@ -16,7 +16,8 @@ use Rattle.refute_log.specs.Logged.{Logged}
 use Rattle.refute_log.specs.declared.piece.Run.{Run}
 use Rattle.search_step.specs.Honest.{IsKept}
 use Rattle.search_step.specs.Promise.{records_of}
-use Rattle.solve_answer.specs.Searched.{loss_task, OfStartBound, IsOfACoreRun}
+use Rattle.solve_answer.specs.Course.{Course}
+use Rattle.solve_answer.specs.Searched.{loss_task, OfStartBound, IsOfASearch}
 use Rattle.solve_answer.specs.Solved.{HasRefutation}
 use Rattle.solve_answer.specs.declared.start.Beginning.{Beginning}
 
@@ -28,10 +29,10 @@ pub record IsBeginning (problem : Problem) (moves : ℕ) (beginning : Beginning)
   pub possible : IsPossibleStart (mill_of problem) (loss_charge problem.sizes) problem.orders moves
       beginning.start.plan
 
--- A run is that of a search by these limits and this schedule, to its end: no path is lost or
--- recorded twice, each record is sound for what its plan loses, and thrifty for the start bound,
--- each ticket is a record, and a path is left only where tickets wanted.
-pub record HasSearched (limits : Limits) (schedule : List ℕ) (problem : Problem) (run : Run)
+-- A run is that of a search by these limits, to its end: no path is lost or recorded twice, each
+-- record is sound for what its plan loses, and thrifty for the start bound, each ticket is a record,
+-- and a path is left only where tickets wanted.
+pub record HasSearched (limits : Limits) (course : Course) (problem : Problem) (run : Run)
     : Type 0 where
   pub conserved : IsConserved (loss_task problem) (records_of run) run.unclosed.items
   pub each_sound :
@@ -47,9 +48,9 @@ pub record HasSearched (limits : Limits) (schedule : List ℕ) (problem : Proble
       (λ bound. AreThrifty (loss_task problem) bound (joined (records_of run)))
   pub count : length (joined (records_of run)) ≡ min run.drawn limits.nodes
   pub left : run.unclosed.items ≢ [] → limits.nodes < run.drawn
-  pub core_run : IsOfACoreRun limits schedule problem run
+  pub of_a_search : IsOfASearch limits course problem run
 
 -- the log of a best plan: where it is asked for it refutes the loss, and else there is none
-abbrev pub HasLogAsAsked : Bool → Limits → List ℕ → Problem → ℕ → Option Logged → Type 0
-HasLogAsAsked true limits schedule problem = HasRefutation limits schedule problem
-HasLogAsAsked false limits schedule problem = λ loss log. log ≡ None
+abbrev pub HasLogAsAsked : Bool → Limits → Course → Problem → ℕ → Option Logged → Type 0
+HasLogAsAsked true limits course problem = HasRefutation limits course problem
+HasLogAsAsked false limits course problem = λ loss log. log ≡ None

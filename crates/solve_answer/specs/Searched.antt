@@ -1,4 +1,5 @@
--- Searches of a problem's tree: the core runs with some limits and a schedule, and what they leave.
+-- Searches of a problem's tree: where they begin, and what they leave by the course that their
+-- workers took.
 use Rattle.std.specs.Prelude.{ℕ, ◌≡◌, ◌≢◌, ◌≤◌, true, List, [], length}
 use Rattle.std.specs.List.Sorted.{IsPermutation}
 use Rattle.mill_model.specs.Best.{IsStartOf}
@@ -18,6 +19,7 @@ use Rattle.refute_log.specs.declared.piece.Run.{Run}
 use Rattle.search_step.specs.Promise.{records_of, EachSplitsAnew}
 use Rattle.core_machine.specs.Core.{Core, IsCoreRun, pieces_of}
 use Rattle.core_replay.specs.Replayed.{IsLeftBy}
+use Rattle.solve_answer.specs.Course.{Course, Scheduled, Running}
 
 -- what the logs and runs of a problem are judged by
 abbrev pub loss_task : Problem → Task
@@ -40,26 +42,41 @@ pub record MayBegin (problem : Problem) (moves : ℕ) (ranked : RankedOrders)
   pub legal : IsStartOf problem (loss_charge problem.sizes) (record { plan = plan; loss = loss })
   pub at_most : OfStartBound problem moves (λ bound. loss ≤ bound)
 
-module _ (limits : Limits) (schedule : List ℕ) (problem : Problem) where
-  -- The records of a log are those of a core run of this schedule. No piece of fewer than 65,536
-  -- records splits a path for which one stands that it split before.
-  pub record AreOfACoreRun (log : List Entry) : Type 0 where
-    pub ranked : RankedOrders
-    pub charges : ChargeTable
-    pub loss : ℕ
-    pub begins : MayBegin problem limits.moves ranked charges loss
-    pub last : Core
-    pub is : IsCoreRun ranked charges limits.nodes limits.workers loss schedule last
-    pub records : IsPermutation (joined (pieces_of last)) log
-    pub anew : EachSplitsAnew ranked charges (pieces_of last)
+-- Pieces are those of a search that began with this loss. With a schedule they are the pieces of
+-- its core run. Of running workers no core run is named.
+abbrev pub ArePiecesOf : Course → RankedOrders → ChargeTable → Limits → ℕ → List (List Entry) →
+    Type 0
+ArePiecesOf (Scheduled schedule) ranked charges limits loss pieces =
+    (last : Core) × IsCoreRun ranked charges limits.nodes limits.workers loss schedule last
+    × (pieces ≡ pieces_of last)
+ArePiecesOf Running ranked charges limits loss pieces = Unit {0}
 
-  -- a run is what such a core run leaves, and its pieces split so
-  pub record IsOfACoreRun (run : Run) : Type 0 where
+-- A run is what such a search leaves: with a schedule that what its core run leaves.
+abbrev pub IsLeftOf : Course → RankedOrders → ChargeTable → Limits → ℕ → Run → Type 0
+IsLeftOf (Scheduled schedule) ranked charges limits loss run =
+    IsLeftBy ranked charges limits.nodes limits.workers loss schedule run
+IsLeftOf Running ranked charges limits loss run = Unit {0}
+
+module _ (limits : Limits) (course : Course) (problem : Problem) where
+  -- The records of a log are those of the pieces of such a search. No piece of fewer than 65,536
+  -- records splits a path for which one stands that it split before.
+  pub record AreOfASearch (log : List Entry) : Type 0 where
     pub ranked : RankedOrders
     pub charges : ChargeTable
     pub loss : ℕ
     pub begins : MayBegin problem limits.moves ranked charges loss
-    pub left : IsLeftBy ranked charges limits.nodes limits.workers loss schedule run
+    pub pieces : List (List Entry)
+    pub are : ArePiecesOf course ranked charges limits loss pieces
+    pub records : IsPermutation (joined pieces) log
+    pub anew : EachSplitsAnew ranked charges pieces
+
+  -- a run is what such a search leaves, and its pieces split so
+  pub record IsOfASearch (run : Run) : Type 0 where
+    pub ranked : RankedOrders
+    pub charges : ChargeTable
+    pub loss : ℕ
+    pub begins : MayBegin problem limits.moves ranked charges loss
+    pub left : IsLeftOf course ranked charges limits loss run
     pub anew : EachSplitsAnew ranked charges (records_of run)
 
   -- A run stopped with its budget spent, and with this plan and its loss but for the numbers of the
@@ -77,4 +94,4 @@ module _ (limits : Limits) (schedule : List ℕ) (problem : Problem) where
     pub thrifty :
         OfStartBound problem limits.moves
         (λ bound. AreThrifty (loss_task problem) bound (joined (records_of run)))
-    pub core_run : IsOfACoreRun run
+    pub of_a_search : IsOfASearch run

@@ -15,7 +15,8 @@ use Rattle.answer_text.specs.declared.answer.Answer.TheVariants.{Optimal, Feasib
 use Rattle.answer_text.specs.Text.{answer_text, IsAnswerText}
 use Rattle.mill_model.specs.Heavy.{IsFirstHeavy, NoneHeavy}
 use Rattle.reply_text.specs.declared.solution.Solution.{Solution}
-use Rattle.solve_answer.specs.Searched.{loss_task, OfStartBound, AreOfACoreRun, HasStopped}
+use Rattle.solve_answer.specs.Course.{Course}
+use Rattle.solve_answer.specs.Searched.{loss_task, OfStartBound, AreOfASearch, HasStopped}
 
 -- A plan may be told as feasible with a spent budget: it loses no more than the start bound, and
 -- the budget is less than the thrifty tree of that bound has paths.
@@ -39,54 +40,55 @@ IsSolution limits problem (Feasible loss plan spent) =
     NoneHeavy (largest problem.sizes) problem.orders
     × IsSpent limits problem loss plan spent
 
--- the run that is handed out with an answer: of a feasible one that of the search behind it, which
--- took its turns by this schedule, and of others none
-abbrev pub HandsOut : Limits → List ℕ → Problem → Answer → Option Run → Type 0
-HandsOut limits schedule problem (Feasible loss plan spent) None = ⊥
-HandsOut limits schedule problem (Feasible loss plan spent) (Some run) =
-    HasStopped limits schedule problem loss plan run
-HandsOut limits schedule problem answer run = run ≡ None
+-- the run that is handed out with an answer: of a feasible one that of the search behind it, whose
+-- workers took this course, and of others none
+abbrev pub HandsOut : Limits → Course → Problem → Answer → Option Run → Type 0
+HandsOut limits course problem (Feasible loss plan spent) None = ⊥
+HandsOut limits course problem (Feasible loss plan spent) (Some run) =
+    HasStopped limits course problem loss plan run
+HandsOut limits course problem answer run = run ≡ None
 
 -- what is said of its loss and its log, where it is optimal
 abbrev pub WhereOptimal : (ℕ → Option Logged → Type 0) → Answer → Type 0
 WhereOptimal Is (Optimal loss plan refutation) = Is loss refutation
 WhereOptimal Is answer = Unit {0}
 
--- a log refutes a loss; its records are at most as many as the budget, thrifty, and those of a core
--- run of this schedule
-pub record IsRefutation (limits : Limits) (schedule : List ℕ) (problem : Problem) (loss : ℕ)
+-- a log refutes a loss; its records are at most as many as the budget, thrifty, and those of a
+-- search whose workers took this course
+pub record IsRefutation (limits : Limits) (course : Course) (problem : Problem) (loss : ℕ)
     (log : List Entry) : Type 0 where
   pub refutes : Refutes (loss_task problem) loss log
   pub few : length log ≤ limits.nodes
   pub thrifty :
       OfStartBound problem limits.moves (λ bound. AreThrifty (loss_task problem) bound log)
-  pub core_run : AreOfACoreRun limits schedule problem log
+  pub of_a_search : AreOfASearch limits course problem log
 
 -- there is such a log
-abbrev pub HasRefutation : Limits → List ℕ → Problem → ℕ → Option Logged → Type 0
-HasRefutation limits schedule problem loss None = ⊥
-HasRefutation limits schedule problem loss (Some log) =
-    IsRefutation limits schedule problem loss log.entries
+abbrev pub HasRefutation : Limits → Course → Problem → ℕ → Option Logged → Type 0
+HasRefutation limits course problem loss None = ⊥
+HasRefutation limits course problem loss (Some log) =
+    IsRefutation limits course problem loss log.entries
 
 -- an answer is right, what is printed of it reads as this answer, and the run behind it is there
-pub record IsTold (limits : Limits) (schedule : List ℕ) (problem : Problem) (told : Solution)
+pub record IsTold (limits : Limits) (course : Course) (problem : Problem) (told : Solution)
     : Type 0 where
   pub solution : IsSolution limits problem told.answer
   pub reads_back :
       IsAnswerText (length problem.orders) told.answer (text_lines (answer_text told.answer))
-  pub run : HandsOut limits schedule problem told.answer told.run
+  pub run : HandsOut limits course problem told.answer told.run
 
 -- what `solve` answers to a problem: it has no log
-pub record IsSolved (limits : Limits) (problem : Problem) (solution : Solution) : Type 0 where
-  pub told : IsTold limits [] problem solution
+pub record IsSolved (limits : Limits) (course : Course) (problem : Problem) (solution : Solution)
+    : Type 0 where
+  pub told : IsTold limits course problem solution
   pub log : WhereOptimal (λ loss log. log ≡ None) solution.answer
 
 -- what `prove` answers to a problem, and `replay` by a schedule: where it is optimal it has a log
 -- that refutes its loss
-pub record IsProved (limits : Limits) (schedule : List ℕ) (problem : Problem)
-    (solution : Solution) : Type 0 where
-  pub told : IsTold limits schedule problem solution
-  pub log : WhereOptimal (HasRefutation limits schedule problem) solution.answer
+pub record IsProved (limits : Limits) (course : Course) (problem : Problem) (solution : Solution)
+    : Type 0 where
+  pub told : IsTold limits course problem solution
+  pub log : WhereOptimal (HasRefutation limits course problem) solution.answer
 
 -- Two answers to a problem agree. Optimal ones have one loss, though it may be that of several
 -- plans, with several logs, and a feasible one loses no less. Feasible ones spend one budget, and

@@ -7,7 +7,7 @@ use Rattle.search_step.specs.Serving.{IsPathOf}
 use Rattle.core_machine.specs.Core.{pieces_of, unclosed_of}
 use Rattle.core_machine.specs.Kept.{best_of}
 use Rattle.core_replay.specs.Crew.{CrewState, entries_of}
-use Rattle.core_replay.specs.Replayed.{start_of}
+use Rattle.search_step.specs.Resumable.{start_of}
 use Rattle.core_replay.specs.Resumed.{IsResumed}
 use Rattle.core_replay.proofs.CrewEnds.{all-given}
 use Rattle.core_replay.proofs.Resuming.{in-another-way, in-four-ways, numbers-first, ready-first}

@@ -3,6 +3,7 @@ use Rattle.std.proofs.Common.{◌<◌, refl, sym, inr, subst}
 use Rattle.std.specs.List.{AllByRecursion}
 use Rattle.job_words.specs.declared.option.Setting.TheVariants.{Workers, Nodes}
 use Rattle.schedule_text.proofs.Decided.{schedule-below}
+use Rattle.solve_answer.specs.Course.{Scheduled}
 use Rattle.solve_answer.specs.Solved.{IsProved}
 use Rattle.slab_top.proofs.commands.replay.serve.Goals as goal
 
@@ -31,7 +32,7 @@ returns-clause-reply c =
       (
         c.in_ok-solution.solution,
         refl,
-        subst (λ given. IsProved c.args.job.limits given c.in_ok-instance.instance
+        subst (λ given. IsProved c.args.job.limits (Scheduled given) c.in_ok-instance.instance
             c.in_ok-solution.solution) c.deref.ensures.value c.in_ok-solution.ensures.is,
       ),
     )

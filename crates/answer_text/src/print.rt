@@ -50,8 +50,8 @@ pub fn write_answer<K: Sink>(sink: &mut K, answer: &Answer) -> Result<(), Failed
     block.finish(sink)
 }
 
-// Puts the text of an answer in.
-fn put_answer<K: Sink>(sink: &mut K, block: &mut Block, answer: &Answer) -> Result<(), Failed>
+/// Puts the text of an answer in.
+pub fn put_answer<K: Sink>(sink: &mut K, block: &mut Block, answer: &Answer) -> Result<(), Failed>
     ensures puts { PutsText K.written K.held K.faults sink.old sink.new block.old block.new
         (answer_text answer.now) result }
     ensures log { OnOk result (IfSome (refutation_of answer.now) IsLog) }

@@ -46,11 +46,7 @@ pub fn put_signed_numbers<K: Sink>(
 
 /// Puts a space and the number counted from 1 in, for each of these things, which are counted
 /// from 0.
-pub fn put_ordinals<K: Sink>(
-    sink: &mut K,
-    block: &mut Block,
-    things: &[u16],
-) -> Result<(), Failed>
+pub fn put_ordinals<K: Sink>(sink: &mut K, block: &mut Block, things: &[u16]) -> Result<(), Failed>
     ensures { PutsText K.written K.held K.faults sink.old sink.new block.old block.new
         (flat_map (λ thing. 32 ∷ ordinal thing) things.now) result }
 {

@@ -26,11 +26,11 @@ text-records (e ∷ es) =
     (flat_map (λ e. record_line e ++ 10 ∷ []) es))
 
 -- a log's lines are put in as its first line and those of its records
-pub log-parts : (stated : ℕ) (es : List Entry) → text_of (log_lines stated es)
-    ≡ (codes "log 1 " ++ decimal stated)
-    ++ (10 ∷ [] ++ flat_map (λ e. record_line e ++ 10 ∷ []) es)
-log-parts stated es =
-    ap (λ rest. (codes "log 1 " ++ decimal stated) ++ 10 ∷ rest) (text-records es)
+pub log-parts : (es given : List Entry) → given ≡ es → text_of (log_lines (length es) es)
+    ≡ (codes "log 1 " ++ decimal (length given))
+    ++ (10 ∷ [] ++ flat_map (λ e. record_line e ++ 10 ∷ []) given)
+log-parts es given same =
+    rw same (ap (λ rest. (codes "log 1 " ++ decimal (length es)) ++ 10 ∷ rest) (text-records es))
 
 -- `end` closes the text
 pub log-and-end : (log : Logged) → log_text log

@@ -1,3 +1,4 @@
+//! The text of a log, printed, or put through a block as a part of another text.
 ghost use Rattle.std.specs.Prelude.{◌≡◌, ◌++◌, ◌∷◌, [], IfOk, OnOk, flat_map, length};
 ghost use Rattle.std.specs.Io.KnownBytes.{Appends};
 ghost use Rattle.mill_io.specs.Blockwise.{PutsText};
@@ -49,11 +50,7 @@ pub fn put_log<K: Sink>(sink: &mut K, block: &mut Block, log: &Log) -> Result<()
 }
 
 // Puts the lines of records in.
-fn put_records<K: Sink>(
-    sink: &mut K,
-    block: &mut Block,
-    entries: &[Entry],
-) -> Result<(), Failed>
+fn put_records<K: Sink>(sink: &mut K, block: &mut Block, entries: &[Entry]) -> Result<(), Failed>
     ensures { PutsText K.written K.held K.faults sink.old sink.new block.old block.new
         (flat_map (λ entry. record_line entry ++ 10 ∷ []) entries.now) result }
 {

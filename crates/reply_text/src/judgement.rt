@@ -1,6 +1,7 @@
-ghost use Rattle.std.specs.Prelude.{◌≡◌, ◌++◌, ◌∷◌, []};
+ghost use Rattle.std.specs.Prelude.{◌≡◌, ◌++◌, ◌∷◌, [], decimal, flat_map, length};
 ghost use Rattle.mill_io.specs.Blockwise.{PutsText};
-ghost use Rattle.reply_text.specs.Judgement.{is_accepted, rejected_path, words_of_judgement};
+ghost use Rattle.reply_text.specs.Judgement.{is_accepted, words_of_judgement};
+ghost use Rattle.line_text.specs.Numbers.{ordinal};
 
 use crate::line::put_both;
 use line_text::{put_named, put_ordinals};
@@ -61,7 +62,12 @@ impl Judgement {
             Judgement::Legal { loss } => put_named(sink, block, b"legal loss ", *loss),
             Judgement::Verified { loss } => put_named(sink, block, b"verified loss ", *loss),
             Judgement::Confirmed { order } => {
-                put_named(sink, block, b"confirmed infeasible order ", *order as u64 + 1)
+                put_named(
+                    sink,
+                    block,
+                    b"confirmed infeasible order ",
+                    *order as u64 + 1,
+                )
             }
             Judgement::Heavy { slab, load } => {
                 put_both(
@@ -85,33 +91,46 @@ impl Judgement {
                 )
             }
             Judgement::LossDiffers { stated, found } => {
-                put_both(sink, block, b"rejected loss stated ", *stated, b" found ", *found)
+                put_both(
+                    sink,
+                    block,
+                    b"rejected loss stated ",
+                    *stated,
+                    b" found ",
+                    *found,
+                )
             }
             Judgement::OrderDiffers { stated, found } => {
                 let first = found.map_or(0, |order| order as u64 + 1);
                 let stated = *stated as u64 + 1;
-                put_both(sink, block, b"rejected order stated ", stated, b" found ", first)
+                put_both(
+                    sink,
+                    block,
+                    b"rejected order stated ",
+                    stated,
+                    b" found ",
+                    first,
+                )
             }
-            Judgement::Missing { path } => put_path(sink, block, b"missing", path),
-            Judgement::Stray { path } => put_path(sink, block, b"stray", path),
-            Judgement::Unsound { path } => put_path(sink, block, b"unsound", path),
+            Judgement::Missing { path } => put_path(sink, block, b"rejected missing ", path),
+            Judgement::Stray { path } => put_path(sink, block, b"rejected stray ", path),
+            Judgement::Unsound { path } => put_path(sink, block, b"rejected unsound ", path),
         }
     }
 }
 
-// Puts in what is written of a path of a log, and what is wrong there.
+// Puts words, the length of a path of a log and the path in.
 fn put_path<K: Sink>(
     sink: &mut K,
     block: &mut Block,
-    fault: &[u8],
+    name: &[u8],
     path: &Path,
 ) -> Result<(), Failed>
     ensures { PutsText K.written K.held K.faults sink.old sink.new block.old block.new
-        (rejected_path fault.now path.now) result }
+        (name.now ++ decimal (length path.now) ++ flat_map (λ group. 32 ∷ ordinal group) path.now)
+        result }
 {
     let numbers = path.numbers();
-    block.put(sink, b"rejected ")?;
-    block.put(sink, fault)?;
-    put_named(sink, block, b" ", numbers.len() as u64)?;
+    put_named(sink, block, name, numbers.len() as u64)?;
     put_ordinals(sink, block, numbers)
 }

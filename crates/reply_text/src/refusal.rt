@@ -57,11 +57,7 @@ impl Refusal {
 }
 
 // Puts in what is written where no instance is in front.
-fn put_instance<K: Sink>(
-    sink: &mut K,
-    block: &mut Block,
-    why: InstanceError,
-) -> Result<(), Failed>
+fn put_instance<K: Sink>(sink: &mut K, block: &mut Block, why: InstanceError) -> Result<(), Failed>
     ensures { PutsText K.written K.held K.faults sink.old sink.new block.old block.new
         (words_of_refusal (Instance why)) result }
 {
@@ -82,11 +78,7 @@ fn put_instance<K: Sink>(
 }
 
 // Puts in what is written where no answer is behind the instance.
-fn put_answer<K: Sink>(
-    sink: &mut K,
-    block: &mut Block,
-    why: AnswerTextError,
-) -> Result<(), Failed>
+fn put_answer<K: Sink>(sink: &mut K, block: &mut Block, why: AnswerTextError) -> Result<(), Failed>
     ensures { PutsText K.written K.held K.faults sink.old sink.new block.old block.new
         (words_of_refusal (Answer why)) result }
 {

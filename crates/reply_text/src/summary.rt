@@ -57,12 +57,15 @@ impl Ending {
             (text_of (lines_of_ending self.now)) result }
     {
         match self {
-            Ending::Optimal { loss } => put_named(sink, block, b"optimal\nloss ", *loss)?,
+            Ending::Optimal { loss } => {
+                put_named(sink, block, b"optimal\nloss ", *loss)?;
+                block.put(sink, b"\nend\n")
+            }
             Ending::Feasible { loss, spent, .. } => {
                 put_both(sink, block, b"feasible\nloss ", *loss, b"\nspent ", *spent)?;
+                block.put(sink, b"\nend\n")
             }
         }
-        block.put(sink, b"\nend\n")
     }
 }
 

@@ -26,10 +26,20 @@ returns-clause-cause g c =
     c.finish.ensures.cause
 
 pub returns-clause-read_back : goal.returns-clause-read_back
-returns-clause-read_back g c = ?
+returns-clause-read_back g c =
+    on_ok_weaker c.finish.result (λ _ orders few fits. read-back orders c.args.answer.now _ refl
+    c.in_ok-put_answer.ensures.log few fits) c.finish.ensures.ok
+
+-- a front of the text was written where it wasn't put in whole
 
 pub returns-in_err-put_answer-clause-err : goal.returns-in_err-put_answer-clause-err
-returns-in_err-put_answer-clause-err g c = ?
+returns-in_err-put_answer-clause-err g c =
+    let failed = put-fails _ _ _ _ _ _ _ [] _ [] _ _ c.from_residual.result (sym (append-nil _))
+    c.from_residual.ensures.0 c.in_err-put_answer.ensures.puts in
+    on_err_weaker c.from_residual.result (λ front. rw c.new-block.ensures at front) failed.front
 
 pub returns-in_err-put_answer-clause-cause : goal.returns-in_err-put_answer-clause-cause
-returns-in_err-put_answer-clause-cause g c = ?
+returns-in_err-put_answer-clause-cause g c =
+    let failed = put-fails _ _ _ _ _ _ _ [] _ [] _ _ c.from_residual.result (sym (append-nil _))
+    c.from_residual.ensures.0 c.in_err-put_answer.ensures.puts in
+    failed.cause

@@ -1,6 +1,6 @@
-use Rattle.std.proofs.Common.{refl}
+use Rattle.std.proofs.Common.{[], append-nil, refl, sym}
 use Rattle.std.proofs.lemmas.Result.{on_err_weaker, on_ok_weaker}
-use Rattle.mill_io.proofs.Blockwise.{cause-behind, front-written-last, text-written}
+use Rattle.mill_io.proofs.Blockwise.{cause-behind, front-written-last, put-fails, text-written}
 use Rattle.mill_io.proofs.Fronts.{two-writes-append-to-both}
 use Rattle.reply_text.proofs.outcome.Outcome.write.Goals as goal
 
@@ -21,3 +21,17 @@ returns-clause-held g c =
 pub returns-clause-cause : goal.returns-clause-cause
 returns-clause-cause g c =
     cause-behind _ _ _ _ c.finish.result c.in_ok-put_text.ensures.cause c.finish.ensures.cause
+
+-- a front of the text was written where it wasn't put in whole
+
+pub returns-in_err-put_text-clause-err : goal.returns-in_err-put_text-clause-err
+returns-in_err-put_text-clause-err g c =
+    let failed = put-fails _ _ _ _ _ _ _ [] _ [] _ _ c.from_residual.result (sym (append-nil _))
+    c.from_residual.ensures.0 c.in_err-put_text.ensures in
+    on_err_weaker c.from_residual.result (λ front. rw c.new-block.ensures at front) failed.front
+
+pub returns-in_err-put_text-clause-cause : goal.returns-in_err-put_text-clause-cause
+returns-in_err-put_text-clause-cause g c =
+    let failed = put-fails _ _ _ _ _ _ _ [] _ [] _ _ c.from_residual.result (sym (append-nil _))
+    c.from_residual.ensures.0 c.in_err-put_text.ensures in
+    failed.cause

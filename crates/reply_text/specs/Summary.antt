@@ -18,12 +18,15 @@ lines_of_ending (Feasible loss spent run) =
     codes "feasible" ∷ (codes "loss " ++ decimal loss) ∷ (codes "spent " ++ decimal spent)
     ∷ codes "end" ∷ []
 
--- the line of the instance, and those of the ending
+-- the first line: which instance it is, and what its orders weigh together
+abbrev pub first_line : Summary → List ℕ
+first_line summary =
+    codes "drill seed " ++ decimal summary.seed ++ codes " orders " ++ decimal summary.orders
+    ++ codes " weight " ++ decimal summary.weight
+
+-- this line, and those of the ending
 abbrev pub lines_of_summary : Summary → List (List ℕ)
-lines_of_summary summary =
-    (codes "drill seed " ++ decimal summary.seed ++ codes " orders " ++ decimal summary.orders
-    ++ codes " weight " ++ decimal summary.weight)
-    ∷ lines_of_ending summary.ending
+lines_of_summary summary = first_line summary ∷ lines_of_ending summary.ending
 
 -- the run that is handed out with an ending
 abbrev pub run_behind : Ending → Option Run

@@ -3,7 +3,7 @@
 //! that run beside each other.
 #![tactic(auto)]
 
-mod answered;
+mod answer;
 mod running;
 mod scheduled;
 mod start;

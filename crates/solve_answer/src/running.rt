@@ -9,7 +9,7 @@ ghost use Rattle.solve_answer.specs.Course.{Running};
 ghost use Rattle.solve_answer.specs.Search.{HasLogAsAsked, HasSearched};
 ghost use Rattle.solve_answer.specs.Solved.{IsProved, IsSolved, IsTold, WhereOptimal};
 
-use crate::answered::{answer_of, infeasible};
+use crate::answer::{answer_of, infeasible};
 use crate::start::beginning_of;
 use instance_facts::first_heavy;
 use mill_model::{Instance, Limits, OutOfMemory};

@@ -1,4 +1,4 @@
-ghost use Rattle.std.specs.Prelude.{◌≡◌, ◌<◌, ◌×◌, true, IfOk};
+ghost use Rattle.std.specs.Prelude.{◌≡◌, ◌<◌, true, IfOk};
 ghost use Rattle.job_words.specs.Words.{IsInRange};
 ghost use Rattle.reply_text.specs.Outcome.{IsToTell};
 ghost use Rattle.reply_text.specs.declared.summary.Ending.{Ending};

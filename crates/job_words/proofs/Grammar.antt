@@ -14,7 +14,7 @@ use Rattle.std.specs.Str.Parse.{digits_value}
 use Rattle.std.proofs.lemmas.Slice.Eq.{bytes_eq-Decides}
 use Rattle.job_words.specs.declared.command.Command.{Command}
 use Rattle.job_words.specs.declared.command.Command.TheVariants.{Solve, Prove, Check, Verify}
-use Rattle.job_words.specs.declared.command.Command.TheVariants.{Replay}
+use Rattle.job_words.specs.declared.command.Command.TheVariants.{Replay, Drill}
 use Rattle.job_words.specs.declared.option.Setting.{Setting}
 use Rattle.job_words.specs.declared.option.Setting.TheVariants.{Workers, Nodes, Colours}
 use Rattle.job_words.specs.declared.option.Setting.TheVariants.{Moves, Seed, Orders}
@@ -60,7 +60,7 @@ name-once s t e =
 
 command-spelt : List ℕ → Option Command
 command-spelt word =
-    find (λ c. bytes_eq (spelling c) word) (Solve ∷ Prove ∷ Check ∷ Verify ∷ Replay ∷ [])
+    find (λ c. bytes_eq (spelling c) word) (Solve ∷ Prove ∷ Check ∷ Verify ∷ Replay ∷ Drill ∷ [])
 
 spelling-leads-back : (c : Command) → command-spelt (spelling c) ≡ Some c
 unfolding command-spelt
@@ -69,6 +69,7 @@ spelling-leads-back Prove = refl
 spelling-leads-back Check = refl
 spelling-leads-back Verify = refl
 spelling-leads-back Replay = refl
+spelling-leads-back Drill = refl
 
 spelling-once : (c d : Command) → spelling c ≡ spelling d → c ≡ d
 spelling-once c d e =

@@ -4,10 +4,10 @@ use Rattle.std.specs.Prelude.{ℕ, List, Bool, true, false, codes}
 use Rattle.std.specs.Str.{bytes_eq}
 use Rattle.job_words.specs.declared.command.Command.{Command}
 use Rattle.job_words.specs.declared.command.Command.TheVariants.{Solve, Prove, Check, Verify}
-use Rattle.job_words.specs.declared.command.Command.TheVariants.{Replay}
+use Rattle.job_words.specs.declared.command.Command.TheVariants.{Replay, Drill}
 use Rattle.job_words.specs.declared.option.Rule.{Rule}
 use Rattle.job_words.specs.declared.option.Scope.{Scope}
-use Rattle.job_words.specs.declared.option.Scope.TheVariants.{Every, Searching, Planned}
+use Rattle.job_words.specs.declared.option.Scope.TheVariants.{Every, Searching, Drilling}
 use Rattle.job_words.specs.declared.option.Setting.{Setting}
 use Rattle.job_words.specs.declared.option.Setting.TheVariants.{Workers, Nodes, Colours}
 use Rattle.job_words.specs.declared.option.Setting.TheVariants.{Moves, Seed, Orders}
@@ -49,12 +49,18 @@ searches Prove = true
 searches Check = false
 searches Verify = false
 searches Replay = true
+searches Drill = true
+
+-- whether it makes the instance that it searches
+abbrev pub drills : Command → Bool
+drills Drill = true
+drills command = false
 
 -- whether a command is among those of a scope
 abbrev pub is_in : Scope → Command → Bool
 is_in Every command = true
 is_in Searching command = searches command
-is_in Planned command = false
+is_in Drilling command = drills command
 
 -- whether an option may stand with a command
 abbrev pub allows : Command → Setting → Bool

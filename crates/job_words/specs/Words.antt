@@ -7,7 +7,7 @@ use Rattle.std.specs.Str.Parse.{IsNumeral, digits_value}
 use Rattle.std.specs.declared.alloc.Global.{Global}
 use Rattle.job_words.specs.declared.command.Command.{Command}
 use Rattle.job_words.specs.declared.command.Command.TheVariants.{Solve, Prove, Check, Verify}
-use Rattle.job_words.specs.declared.command.Command.TheVariants.{Replay}
+use Rattle.job_words.specs.declared.command.Command.TheVariants.{Replay, Drill}
 use Rattle.job_words.specs.declared.option.Setting.{Setting}
 use Rattle.job_words.specs.declared.option.Setting.TheVariants.{Workers, Nodes, Colours}
 use Rattle.job_words.specs.declared.option.Setting.TheVariants.{Moves, Seed, Orders}
@@ -25,14 +25,16 @@ spelling Prove = codes "prove"
 spelling Check = codes "check"
 spelling Verify = codes "verify"
 spelling Replay = codes "replay"
+spelling Drill = codes "drill"
 
--- how many bytes a command's input may have
-abbrev pub limit_of : Command → ℕ
-limit_of Solve = 4194304
-limit_of Prove = 4194304
-limit_of Check = 268435456
-limit_of Verify = 268435456
-limit_of Replay = 4194304
+-- how many bytes a command's input may have; one that reads nothing has no limit
+abbrev pub limit_of : Command → Option ℕ
+limit_of Solve = Some 4194304
+limit_of Prove = Some 4194304
+limit_of Check = Some 268435456
+limit_of Verify = Some 268435456
+limit_of Replay = Some 4194304
+limit_of Drill = None
 
 -- an option that is given: what it sets, and the word of its number
 pub record Given : Type 0 where

@@ -16,37 +16,39 @@ pub enum Command {
     Verify,
     /// Answer as `prove` does, with workers that take turns as a schedule says.
     Replay,
+    /// Search an instance that is made from a seed, and tell what came of it.
+    Drill,
 }
 
-/// The commands, in the order of the usage line: None where one is planned only, and nothing but
-/// that line has it.
-pub const COMMANDS: [Row<Option<Command>>; 6] = [
-    ("solve", Some(Command::Solve)),
-    ("prove", Some(Command::Prove)),
-    ("check", Some(Command::Check)),
-    ("verify", Some(Command::Verify)),
-    ("replay", Some(Command::Replay)),
-    ("drill", None),
+/// The commands, in the order of the usage line.
+pub const COMMANDS: [Row<Command>; 6] = [
+    ("solve", Command::Solve),
+    ("prove", Command::Prove),
+    ("check", Command::Check),
+    ("verify", Command::Verify),
+    ("replay", Command::Replay),
+    ("drill", Command::Drill),
 ];
 
 impl Command {
     ghost use Rattle.job_words.specs.Words.{limit_of};
 
-    /// How many bytes its input may have.
-    pub fn limit(self) -> usize
+    /// How many bytes its input may have, or None where it reads none.
+    pub fn limit(self) -> Option<usize>
         ensures { result ≡ limit_of self }
     {
         match self {
-            Command::Solve | Command::Prove | Command::Replay => 4_194_304,
-            Command::Check | Command::Verify => 268_435_456,
+            Command::Solve | Command::Prove | Command::Replay => Some(4_194_304),
+            Command::Check | Command::Verify => Some(268_435_456),
+            Command::Drill => None,
         }
     }
 }
 
-/// The command that a word spells, where the program serves it.
+/// The command that a word spells.
 pub fn command_of(word: &str) -> Option<Command>
     ensures some { IfSome result (λ command. word.now ≡ spelling command) }
     ensures none { IfNone result ((command : Command) → word.now ≡ spelling command → ⊥) }
 {
-    served(&COMMANDS, word)?
+    served(&COMMANDS, word)
 }

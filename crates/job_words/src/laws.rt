@@ -2,7 +2,7 @@ ghost use Rattle.std.specs.Prelude.{◌≡◌};
 ghost use Rattle.job_words.specs.Options.{rule_of};
 ghost use Rattle.job_words.specs.declared.option.Setting.TheVariants.{Workers, Nodes, Colours};
 ghost use Rattle.job_words.specs.declared.option.Setting.TheVariants.{Moves, Seed, Orders};
-ghost use Rattle.job_words.specs.declared.option.Scope.TheVariants.{Every, Searching, Planned};
+ghost use Rattle.job_words.specs.declared.option.Scope.TheVariants.{Every, Searching, Drilling};
 
 /// The ranges of the options, the number of each where none is given, and the commands that they
 /// may stand with.
@@ -40,13 +40,13 @@ pub fn rules_of_the_options()
       least = 0;
       greatest = 4294967295;
       default = 1;
-      scope = Planned;
+      scope = Drilling;
     } }
     ensures orders { rule_of Orders ≡ record {
       setting = Orders;
       least = 0;
       greatest = 1024;
       default = 40;
-      scope = Planned;
+      scope = Drilling;
     } }
 {}

@@ -29,8 +29,8 @@ pub enum Scope {
     Every,
     /// Those that search.
     Searching,
-    /// None yet: the option is planned only, and nothing but the usage line has it.
-    Planned,
+    /// The one that makes its instance.
+    Drilling,
 }
 
 /// What the language of words says of an option.
@@ -86,7 +86,7 @@ pub const SEED: Rule = Rule {
     least: 0,
     greatest: 4_294_967_295,
     default: 1,
-    scope: Scope::Planned,
+    scope: Scope::Drilling,
 };
 
 /// How many orders a generated instance has.
@@ -95,7 +95,7 @@ pub const ORDERS: Rule = Rule {
     least: 0,
     greatest: 1024,
     default: 40,
-    scope: Scope::Planned,
+    scope: Scope::Drilling,
 };
 
 /// The options, in the order of the usage line.
@@ -118,10 +118,8 @@ impl Command {
     {
         match scope {
             Scope::Every => true,
-            Scope::Searching => {
-                matches!(self, Command::Solve | Command::Prove | Command::Replay)
-            }
-            Scope::Planned => false,
+            Scope::Searching => !matches!(self, Command::Check | Command::Verify),
+            Scope::Drilling => matches!(self, Command::Drill),
         }
     }
 }

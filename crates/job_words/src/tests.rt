@@ -21,11 +21,12 @@ fn words_of(alloc: Global, row: &[&str]) -> Result<Vec<String>, OutOfMemory> {
 #[test]
 fn other_words_ask_for_nothing(rt: HostRuntime) -> Result<(), Fail> {
     let alloc = rt.alloc();
-    let rows: [(&[&str], usize); 26] = [
+    let rows: [(&[&str], usize); 31] = [
         (&[], 0),
         (&["SOLVE", "solve"], 0),
         (&["replays"], 0),
-        (&["drill", "--moves", "1"], 0),
+        (&["drills"], 0),
+        (&["--seed", "1", "drill"], 0),
         (&["--colours", "1", "solve"], 0),
         (&["verify", "--nodes", "5"], 1),
         (&["solve", ""], 1),
@@ -33,11 +34,14 @@ fn other_words_ask_for_nothing(rt: HostRuntime) -> Result<(), Fail> {
         (&["check", "--moves", "1"], 1),
         (&["verify", "--workers", "2"], 1),
         (&["replay", "--seed", "1"], 1),
+        (&["solve", "--orders", "3"], 1),
         (&["solve", "--colours=1"], 1),
         (&["solve", "--nodes"], 2),
         (&["solve", "--nodes", "-1"], 2),
         (&["solve", "--nodes", "1000000001"], 2),
         (&["prove", "--moves", "1000001"], 2),
+        (&["drill", "--seed", "4294967296"], 2),
+        (&["drill", "--orders", "1025"], 2),
         (&["check", "--colours"], 2),
         (&["solve", "--colours", "0"], 2),
         (&["solve", "--colours", "9", "--bad"], 2),
@@ -47,6 +51,7 @@ fn other_words_ask_for_nothing(rt: HostRuntime) -> Result<(), Fail> {
         (&["solve", "--workers", "65"], 2),
         (&["prove", "--nodes", "1", "--nodes", "1"], 3),
         (&["solve", "--moves", "1", "--moves", "2"], 3),
+        (&["drill", "--seed", "1", "--seed", "1"], 3),
         (&["check", "--colours", "1", "--nodes", "1"], 3),
     ];
     for (row, place) in rows {
@@ -164,6 +169,47 @@ fn a_search_takes_workers(rt: HostRuntime) -> Result<(), Fail> {
             p: 2,
             seed: 1,
             orders: 40,
+        };
+        assert_eq!(rt; read_words(&words), Ok(job));
+    }
+    Ok(())
+}
+
+// Each row: words that search a generated instance, and the job that they ask for.
+#[test]
+fn drill_takes_each_option(rt: HostRuntime) -> Result<(), Fail> {
+    let rows: [(&[&str], u32, u16, u16, u64); 5] = [
+        (&["drill"], 1, 40, 1, 20_000),
+        (&["drill", "--seed", "0", "--orders", "0"], 0, 0, 1, 20_000),
+        (
+            &["drill", "--orders", "1024", "--seed", "4294967295"],
+            4_294_967_295,
+            1024,
+            1,
+            20_000,
+        ),
+        (
+            &["drill", "--workers", "64", "--orders", "003"],
+            1,
+            3,
+            64,
+            20_000,
+        ),
+        (&["drill", "--nodes", "0", "--seed", "7"], 7, 40, 1, 0),
+    ];
+    for (row, seed, orders, workers, nodes) in rows {
+        let words = words_of(rt.alloc(), row)?;
+        let limits = Limits {
+            nodes,
+            moves: 1000,
+            workers,
+        };
+        let job = Job {
+            command: Command::Drill,
+            limits,
+            p: 2,
+            seed,
+            orders,
         };
         assert_eq!(rt; read_words(&words), Ok(job));
     }

@@ -1,5 +1,5 @@
-pub mod Told
 pub mod Refusal
 pub mod Stop
 pub mod Judgement
+pub mod Summary
 pub mod Outcome

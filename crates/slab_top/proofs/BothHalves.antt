@@ -1,7 +1,7 @@
 -- What a search prints has one right answer from the other half of the program, between two jobs
 -- and so between two runs.
 use Rattle.std.specs.Prelude.{Some}
-use Rattle.std.proofs.Common.{◌≡◌, ℕ, ◌≤◌, List, length, refl, sym, ap, ◌∙◌, subst, inl}
+use Rattle.std.proofs.Common.{◌≡◌, ℕ, List, length, refl, sym, ap, ◌∙◌, subst, inl}
 use Rattle.std.proofs.Common.{inr}
 use Rattle.mill_model.specs.Instance.{Problem}
 use Rattle.mill_model.specs.declared.limits.Limits.{Limits}
@@ -19,6 +19,7 @@ use Rattle.reply_text.specs.declared.outcome.Outcome.TheVariants.{Solved}
 use Rattle.reply_text.specs.declared.solution.Solution.{Solution}
 use Rattle.solve_answer.specs.Solved.{IsSolved, IsProved}
 use Rattle.slab_top.specs.Input.{whole_input, instance_alone, instance_with_answer}
+use Rattle.slab_top.specs.Input.{ReadsWhole}
 use Rattle.slab_top.specs.Reply.{Replies, Tells}
 use Rattle.slab_top.specs.Served.{Serves, IsAnswer, IsRight, Output, Answered}
 use Rattle.slab_top.specs.Served.{WrongWords}
@@ -27,6 +28,7 @@ use Rattle.slab_top.specs.Threads.{course_of}
 use Rattle.slab_top.specs.BothHalves.{with_printed, verified_as, checked_as, IsOnlyAnswer}
 use Rattle.slab_top.specs.BothHalves.{IsAnsweredBehind}
 use Rattle.slab_top.specs.BothHalves.{IsOnlyRight, IsRightBehind}
+use Rattle.slab_top.proofs.Limit.{as-read, whole-reads}
 use Rattle.slab_top.proofs.Stages.{whole-decided}
 use Rattle.slab_top.proofs.Replying.{replies-agree}
 use Rattle.slab_top.proofs.EachCommand.{each-is-command}
@@ -42,7 +44,8 @@ served-answer : (job : Job) (input : List ℕ) (solution : Solution) →
     IsAnswer job input (Solved solution) → Serves job.command job input (Solved solution)
 served-answer job input solution (inl refused) = (let other = refused.1 in absurd (cc))
 served-answer job input solution (inr served) =
-    subst (λ bytes. Serves job.command job bytes (Solved solution)) served.1.0 served.2
+    (as-read (λ command bytes. Serves command job bytes (Solved solution)) (λ input bytes h. h)
+    job.command input served.0 served.1).1 served.2
 
 -- a search read an instance that stands alone, and this is right for it
 record HasSearched (Is : Limits → Problem → Solution → Type 0) (job : Job) (input : List ℕ)
@@ -104,7 +107,7 @@ module _ (Is : Limits → Problem → Solution → Type 0)
   pub judged-behind : (job : Job) (text : List ℕ) (limits : Limits) (problem : Problem)
       (solution : Solution) → job.command ≡ judge → (instance_alone job.p text).Reads problem →
       Is limits problem solution →
-      length (with_printed text solution.answer) ≤ limit_of job.command →
+      ReadsWhole (limit_of job.command) (with_printed text solution.answer) →
       IsOnlyAnswer job (with_printed text solution.answer) (outcome_for solution.answer)
   judged-behind job text limits problem solution judge_is alone right short =
       let answer = solution.answer in
@@ -114,7 +117,7 @@ module _ (Is : Limits → Problem → Solution → Type 0)
       let serves = judges limits problem job bytes solution reads right in
       only-answer job bytes (outcome_for answer) (itself answer) (inr (
         bytes,
-        (refl, short),
+        whole-reads (limit_of job.command) bytes short,
         subst (λ command. Serves command job bytes (outcome_for answer)) (sym judge_is) serves,
       ))
 
@@ -191,5 +194,5 @@ right-behind search judge outcome_for law first second p input solution one two 
     (law one.job two.job input solution one.command_is two.command_is (record {
       answered = answer-for first one.job input (Solved solution) one.asked right;
       colours = two.colours ∙ sym one.colours;
-      short = subst (λ command. length bytes ≤ limit_of command) (sym two.command_is) short;
+      short = subst (λ command. ReadsWhole (limit_of command) bytes) (sym two.command_is) short;
     }))

@@ -1,8 +1,8 @@
 -- Outputs that are right for the bytes that the reads of a call gave.
-use Rattle.std.specs.Prelude.{Some}
+use Rattle.std.specs.Prelude.{Some, None}
 use Rattle.std.proofs.Common.{◌≡◌, ◌≢◌, ◌+◌, ◌≤◌, ◌++◌, ◌∙◌, ℕ, List, [], length, refl, sym, subst}
 use Rattle.std.proofs.Common.{arith, inl, inr}
-use Rattle.std.proofs.lemmas.List.{append_cancel_left}
+use Rattle.std.proofs.lemmas.List.{append_cancel_left, append-nil}
 use Rattle.mill_io.specs.Bytes.{GivesCount}
 use Rattle.job_words.specs.declared.job.Job.{Job}
 use Rattle.job_words.specs.Words.{AskFor, limit_of}
@@ -11,33 +11,48 @@ use Rattle.reply_text.specs.declared.outcome.Outcome.TheVariants.{Refused}
 use Rattle.reply_text.specs.declared.refusal.Refusal.TheVariants.{TooLong}
 use Rattle.reply_text.specs.declared.status.TheConstants.{FEASIBLE, WRITE_FAULT}
 use Rattle.reply_text.specs.Outcome as told
+use Rattle.slab_top.specs.Input.{ReadsWhole}
 use Rattle.slab_top.specs.Served.{Serves, IsServed, WrongWords, Answered}
 use Rattle.slab_top.specs.Run.{HasEnough}
 use Rattle.slab_top.specs.Given.{HasAnswered, IsServedWhole}
+use Rattle.slab_top.proofs.Limit.{is-within, not-whole, reads-all, reads-nothing, refuses-long}
 use Rattle.slab_top.proofs.Rights.{right-agree, enough-served, wrong-agree}
 
 -- ---- a job
 
 -- all that was given was served
-pub answered-whole : (job : Job) (old new input : List ℕ) (Ended : Type 0) (outcome : Outcome) →
-    new ≡ old ++ input → Ended → length input ≤ limit_of job.command →
-    Serves job.command job input outcome → HasAnswered job old new Ended outcome
-answered-whole job old new input Ended outcome given end within serves = record {
+pub answered-whole : (job : Job) (limit : ℕ) (old new input : List ℕ) (Ended : Type 0)
+    (outcome : Outcome) → limit_of job.command ≡ Some limit → new ≡ old ++ input → Ended →
+    length input ≤ limit → Serves job.command job input outcome →
+    HasAnswered job old new Ended outcome
+answered-whole job limit old new input Ended outcome limited given end within serves = record {
   input = input;
   given = given;
-  answer = inr (input, (refl, within), serves);
+  answer = inr (input, reads-all job input limit limited within, serves);
   whole = λ short. end;
 }
 
 -- more was given than the limit
-pub answered-long : (job : Job) (old new : List ℕ) (Ended : Type 0) →
-    GivesCount (limit_of job.command + 1) old new →
-    HasAnswered job old new Ended (Refused (TooLong (limit_of job.command)))
-answered-long job old new Ended past = record {
+pub answered-long : (job : Job) (limit : ℕ) (old new : List ℕ) (Ended : Type 0) →
+    limit_of job.command ≡ Some limit → GivesCount (limit + 1) old new →
+    HasAnswered job old new Ended (Refused (TooLong limit))
+answered-long job limit old new Ended limited past = record {
   input = past.0;
   given = past.1;
-  answer = inl (TooLong (limit_of job.command), refl, (refl, omega (arith, past.2)));
-  whole = λ short. absurd (omega (arith, past.2, short));
+  answer =
+      inl (TooLong limit, refl, refuses-long job past.0 limit limited (omega (arith, past.2)));
+  whole = λ short. absurd (omega (arith, past.2, is-within job past.0 limit limited short));
+}
+
+-- nothing was read, so nothing was given
+pub answered-unread : (job : Job) (old : List ℕ) (Ended : Type 0) (outcome : Outcome) →
+    limit_of job.command ≡ None → Serves job.command job [] outcome →
+    HasAnswered job old old Ended outcome
+answered-unread job old Ended outcome unlimited serves = record {
+  input = [];
+  given = sym (append-nil old);
+  answer = inr ([], reads-nothing job [] unlimited, serves);
+  whole = λ short. absurd (not-whole job [] unlimited short);
 }
 
 -- what was answered to the job was served to it
@@ -62,7 +77,8 @@ module _ (words : List (List ℕ)) (job : Job) (old new : List ℕ) (Ended : Typ
     agree = λ other right.
         right-agree words job (Some answered.input) only outcome other asked refl
         (served-to job old new Ended outcome answered) right;
-    whole = λ read. answered.whole (subst (λ (j : Job). length answered.input ≤ limit_of j.command)
+    whole = λ read. answered.whole (subst
+        (λ (j : Job). ReadsWhole (limit_of j.command) answered.input)
         (only read.job read.asked) read.within);
   }
 

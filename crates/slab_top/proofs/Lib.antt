@@ -1,6 +1,8 @@
 mod Behind
 mod Stages
 mod Replying
+mod Limit
+mod Drilling
 mod Stopped
 mod EachCommand
 mod Rights

@@ -1,22 +1,27 @@
 -- What a command answers agrees with all else that is right for the same input, if its stages are
 -- decided and what it says of a value agrees.
 use Rattle.std.proofs.Common.{◌≡◌, ◌≢◌, ℕ, Bool, true, false, cond, refl, sym, ap, ◌∙◌, subst}
-use Rattle.std.proofs.Common.{inl, inr, arith}
+use Rattle.std.proofs.Common.{◌⊎◌, inl, inr, arith}
 use Rattle.std.specs.Prelude.{None, IsSome}
 use Rattle.answer_text.specs.declared.answer.Answer.{Answer}
 use Rattle.answer_text.specs.declared.answer.Answer.TheVariants.{Optimal, Feasible, Infeasible}
 use Rattle.reply_text.specs.declared.outcome.Outcome.{Outcome}
 use Rattle.reply_text.specs.declared.outcome.Outcome.TheVariants.{Refused, Solved, Judged}
+use Rattle.reply_text.specs.declared.outcome.Outcome.TheVariants.{Drilled}
 use Rattle.reply_text.specs.declared.status.TheConstants.{OPTIMAL, ACCEPTED, INFEASIBLE}
 use Rattle.reply_text.specs.declared.status.TheConstants.{REFUSED, FEASIBLE, READ_FAULT}
 use Rattle.reply_text.specs.declared.status.TheConstants.{WRITE_FAULT, OUT_OF_MEMORY, REJECTED}
+use Rattle.reply_text.specs.declared.summary.Ending.{Ending}
+use Rattle.reply_text.specs.declared.summary.Ending.TheVariants as ending
 use Rattle.reply_text.specs.Judgement.{is_accepted}
 use Rattle.reply_text.specs.Outcome as told
+use Rattle.reply_text.specs.Summary.{status_of_ending}
 use Rattle.solve_answer.specs.Solved.{AgreeOnAnswers}
 use Rattle.slab_top.specs.Stage.{Stage, IsDecided}
 use Rattle.slab_top.specs.Reply.{Replies, Tells}
 use Rattle.slab_top.specs.Served.{Output, Answered, status_of}
-use Rattle.slab_top.specs.Agree.{AgreeOnOutcomes, Agree, MayEndWith, MayEndWithAnswer}
+use Rattle.slab_top.specs.Agree.{AgreeOnEndings, AgreeOnOutcomes, Agree, MayEndWith}
+use Rattle.slab_top.specs.Agree.{MayEndWithAnswer}
 use Rattle.slab_top.specs.Run.{IsStatus, IsOwnStatus}
 
 -- ---- agreement
@@ -26,8 +31,18 @@ answer-agrees (Optimal loss plan log) = refl
 answer-agrees (Feasible loss plan spent) = refl
 answer-agrees answer = refl
 
+ending-agrees : (own : Ending) → AgreeOnEndings own own
+ending-agrees (ending.Optimal loss) = refl
+ending-agrees (ending.Feasible loss spent run) = refl
+
 outcome-agrees : (a : Outcome) → AgreeOnOutcomes a a
 outcome-agrees (Solved solution) = answer-agrees solution.answer
+outcome-agrees (Drilled summary) = record {
+  seed = refl;
+  orders = refl;
+  weight = refl;
+  ending = ending-agrees summary.ending;
+}
 outcome-agrees a = refl
 
 pub same-agree : (a b : Outcome) → a ≡ b → AgreeOnOutcomes a b
@@ -80,8 +95,15 @@ judgement-own true =
 judgement-own false =
     number-own REJECTED refl (λ e. omega (arith, e)) (λ e. omega (arith, e)) (λ e. omega (arith, e))
 
+ending-own : (own : Ending) → IsOwnStatus (status_of_ending own)
+ending-own (ending.Optimal loss) =
+    number-own OPTIMAL refl (λ e. omega (arith, e)) (λ e. omega (arith, e)) (λ e. omega (arith, e))
+ending-own (ending.Feasible loss spent run) =
+    number-own FEASIBLE refl (λ e. omega (arith, e)) (λ e. omega (arith, e)) (λ e. omega (arith, e))
+
 pub outcome-own : (a : Outcome) → IsOwnStatus (told.status_of a)
 outcome-own (Solved solution) = answer-own solution.answer
+outcome-own (Drilled summary) = ending-own summary.ending
 outcome-own (Judged judgement) = judgement-own (is_accepted judgement)
 outcome-own (Refused why) =
     number-own REFUSED refl (λ e. omega (arith, e)) (λ e. omega (arith, e)) (λ e. omega (arith, e))
@@ -116,8 +138,14 @@ own-answer (Optimal loss plan log) = inl refl
 own-answer (Feasible loss plan spent) = inr refl
 own-answer (Infeasible place) = refl
 
+own-ending : (own : Ending) →
+    (status_of_ending own ≡ OPTIMAL) ⊎ (status_of_ending own ≡ FEASIBLE)
+own-ending (ending.Optimal loss) = inl refl
+own-ending (ending.Feasible loss spent run) = inr refl
+
 own-status : (a : Output) → MayEndWith a (status_of a)
 own-status (Answered (Solved solution)) = own-answer solution.answer
+own-status (Answered (Drilled summary)) = own-ending summary.ending
 own-status a = refl
 
 same-status : (a b : Output) → a ≡ b → MayEndWith b (status_of a)
@@ -135,6 +163,7 @@ answer-status a b agree =
 outcome-status : (a b : Outcome) → AgreeOnOutcomes a b →
     MayEndWith (Answered b) (status_of (Answered a))
 outcome-status (Solved a) (Solved b) agree = answer-status a.answer b.answer agree
+outcome-status (Drilled a) (Drilled b) agree = own-ending a.ending
 outcome-status a b agree = same-status (Answered a) (Answered b) (ap Answered agree)
 
 pub agree-status : (a b : Output) → Agree a b → MayEndWith b (status_of a)

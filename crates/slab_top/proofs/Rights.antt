@@ -3,13 +3,12 @@
 use Rattle.std.specs.Prelude.{Option, Some, None, IfSome, IsSome, replicate}
 use Rattle.std.specs.Io.KnownBytes.{Consumes, IsAtEnd}
 use Rattle.std.proofs.KnownBytes.{Consumes-whole}
-use Rattle.std.proofs.Common.{◌≡◌, ◌≢◌, ℕ, suc, ◌≤◌, List, length, refl, sym, ◌∙◌, subst, arith}
-use Rattle.std.proofs.Common.{inl, inr}
+use Rattle.std.proofs.Common.{◌≡◌, ◌≢◌, ℕ, suc, ◌≤◌, List, [], length, refl, sym, ◌∙◌, subst}
+use Rattle.std.proofs.Common.{arith, inl, inr}
 use Rattle.std.proofs.lemmas.Bool.{cases_order}
 use Rattle.std.proofs.lemmas.List.{length-replicate}
 use Rattle.mill_io.specs.Bytes.{HasMoreThan}
 use Rattle.mill_model.specs.Instance.{Problem}
-use Rattle.instance_text.specs.Text.{Begins}
 use Rattle.refute_log.specs.declared.piece.Run.{Run}
 use Rattle.job_words.specs.declared.job.Job.{Job}
 use Rattle.job_words.specs.Words.{AskFor, limit_of}
@@ -18,10 +17,11 @@ use Rattle.reply_text.specs.declared.outcome.Outcome.TheVariants.{Refused}
 use Rattle.reply_text.specs.declared.refusal.Refusal.TheVariants.{TooLong}
 use Rattle.reply_text.specs.declared.status.TheConstants.{FEASIBLE, WRITE_FAULT}
 use Rattle.reply_text.specs.Outcome.{status_of, run_of}
-use Rattle.slab_top.specs.Input.{whole_input}
+use Rattle.slab_top.specs.Input.{whole_input, ReadsWhole}
 use Rattle.slab_top.specs.Served.{Serves, IsAnswer, IsServed, Output, WrongWords, Answered, IsRight}
 use Rattle.slab_top.specs.Agree.{AgreeOnOutcomes, Agree}
-use Rattle.slab_top.specs.Run.{HasEnough, IsEnoughFor, IsToBeRead}
+use Rattle.slab_top.specs.Run.{HasEnough, IsAbout, IsEnoughFor, IsToBeRead}
+use Rattle.slab_top.proofs.Limit.{as-read, reads-all, reads-nothing, refuses-long}
 use Rattle.slab_top.proofs.Stages.{whole-decided}
 use Rattle.slab_top.proofs.Replying.{replies-agree, replies-otherwise}
 use Rattle.slab_top.proofs.Replying.{HandsOutRun, replies-hand-out}
@@ -35,13 +35,14 @@ answers-agree job input =
     replies-agree (whole_input job input) (Serves job.command job) (whole-decided job input)
     (λ bytes reads. (each-is-command job.command).agree job bytes)
 
-not-feasible : (job : Job) (input : List ℕ) (problem : Problem) (end : ℕ) (a : Outcome) →
-    problem.p ≡ job.p → Begins input problem end → IsEnoughFor job.limits problem →
+not-feasible : (job : Job) (input : List ℕ) (problem : Problem) (a : Outcome) →
+    IsAbout job.command job input problem → IsEnoughFor job.limits problem →
     IsAnswer job input a → status_of a ≢ FEASIBLE
-not-feasible job input problem end a colours front budget =
+not-feasible job input problem a about budget =
     replies-otherwise (whole_input job input) (Serves job.command job) a
-    (λ bytes reads. (each-is-command job.command).with_enough job bytes problem end a colours
-    (subst (λ given. Begins given problem end) (sym reads.0) front) budget)
+    (λ bytes reads. (each-is-command job.command).with_enough job bytes problem a
+    ((as-read (λ command given. IsAbout command job given problem) (λ input bytes h. h)
+    job.command input bytes reads).0 about) budget)
 
 -- a run is handed out exactly with a feasible answer
 pub served-run : (job : Job) (left : Option (List ℕ)) (a : Outcome) → IsServed job left a →
@@ -66,30 +67,47 @@ none-kept a status run hands is written failed other = elim (cases_order status 
 -- ---- the bytes to come
 
 -- all that was read to the end is what was given
-pub served-whole : (job : Job) (left new : Option (List ℕ)) (input : List ℕ) (outcome : Outcome) →
-    Consumes left new input → IsAtEnd new → length input ≤ limit_of job.command →
-    Serves job.command job input outcome → IsServed job left outcome
-served-whole job left new input outcome read end within serves = record {
+pub served-whole : (job : Job) (limit : ℕ) (left new : Option (List ℕ)) (input : List ℕ)
+    (outcome : Outcome) → limit_of job.command ≡ Some limit → Consumes left new input →
+    IsAtEnd new → length input ≤ limit → Serves job.command job input outcome →
+    IsServed job left outcome
+served-whole job limit left new input outcome limited read end within serves = record {
   input = input;
   given = Consumes-whole left new input (λ told. told ≡ input) read end refl;
-  answer = inr (input, (refl, within), serves);
+  answer = inr (input, reads-all job input limit limited within, serves);
 }
 
 -- more was given than the limit
-pub served-long : (job : Job) (left : Option (List ℕ)) → HasMoreThan (limit_of job.command) left →
-    IsServed job left (Refused (TooLong (limit_of job.command)))
-served-long job None more =
-    let n = suc (limit_of job.command) in
+pub served-long : (job : Job) (limit : ℕ) (left : Option (List ℕ)) →
+    limit_of job.command ≡ Some limit → HasMoreThan limit left →
+    IsServed job left (Refused (TooLong limit))
+served-long job limit None limited more =
+    let n = suc limit in
     let count = length-replicate {A = ℕ} n 0 in
     record {
       input = replicate n 0;
       given = tt;
-      answer = inl (TooLong (limit_of job.command), refl, (refl, omega arith));
+      answer =
+          inl (TooLong limit, refl, refuses-long job (replicate n 0) limit limited (omega arith));
     }
-served-long job (Some told) more = record {
+served-long job limit (Some told) limited more = record {
   input = told;
   given = refl;
-  answer = inl (TooLong (limit_of job.command), refl, (refl, more));
+  answer = inl (TooLong limit, refl, refuses-long job told limit limited more);
+}
+
+-- nothing is read, whatever is to come
+pub served-unread : (job : Job) (left : Option (List ℕ)) (outcome : Outcome) →
+    limit_of job.command ≡ None → Serves job.command job [] outcome → IsServed job left outcome
+served-unread job None outcome unlimited serves = record {
+  input = [];
+  given = tt;
+  answer = inr ([], reads-nothing job [] unlimited, serves);
+}
+served-unread job (Some told) outcome unlimited serves = record {
+  input = told;
+  given = refl;
+  answer = inr ([], reads-nothing job told unlimited, serves);
 }
 
 -- two outcomes for the same told bytes
@@ -126,25 +144,25 @@ module _ (words : List (List ℕ)) (job : Job) (left : Option (List ℕ))
       by_left None own status served is = tt
       by_left (Some input) own status served is = λ has e.
           let same = only has.job has.asked in
-          not-feasible job served.input has.problem has.end own
-          (subst (λ (j : Job). has.problem.p ≡ j.p) same has.colours)
-          (subst (λ bytes. Begins bytes has.problem has.end) served.given has.front)
+          not-feasible job served.input has.problem own
+          (subst (λ bytes. IsAbout job.command job bytes has.problem) served.given
+          (subst (λ (j : Job). IsAbout j.command j input has.problem) same has.about))
           (subst (λ (j : Job). IsEnoughFor j.limits has.problem) same has.budget)
           served.answer
           (sym (is (λ failed. omega (arith, e, failed))) ∙ e)
 
   -- and what was read for it was read for the words
   pub ended-for : (Ended : Type 0) →
-      IfSome left (λ input. length input ≤ limit_of job.command → Ended) →
+      IfSome left (λ input. ReadsWhole (limit_of job.command) input → Ended) →
       IfSome left (λ input. IsToBeRead words input → Ended)
   ended-for = by_left left
     where
       by_left : (left : Option (List ℕ)) (Ended : Type 0) →
-          IfSome left (λ input. length input ≤ limit_of job.command → Ended) →
+          IfSome left (λ input. ReadsWhole (limit_of job.command) input → Ended) →
           IfSome left (λ input. IsToBeRead words input → Ended)
       by_left None Ended ended = tt
       by_left (Some input) Ended ended =
-          λ read. ended (subst (λ (j : Job). length input ≤ limit_of j.command)
+          λ read. ended (subst (λ (j : Job). ReadsWhole (limit_of j.command) input)
           (only read.job read.asked) read.within)
 
 -- They ask for none.

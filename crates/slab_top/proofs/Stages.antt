@@ -1,6 +1,6 @@
 -- Each stage of a command is decided, and so are stages one after the other. What a reader shows
 -- of its text is all that is wanted of its stage.
-use Rattle.std.specs.Prelude.{Result, Ok, Err}
+use Rattle.std.specs.Prelude.{Result, Ok, Err, Option, Some, None}
 use Rattle.std.proofs.Common.{◌≡◌, ◌≢◌, ℕ, ◌^◌, ◌<◌, List, length, drop, sym, ap, ap₂, ◌∙◌}
 use Rattle.std.proofs.Common.{subst, inl, inr, arith}
 use Rattle.mill_model.specs.Instance.{Problem}
@@ -10,11 +10,13 @@ use Rattle.answer_text.specs.declared.error.AnswerTextError.{AnswerTextError}
 use Rattle.answer_text.specs.declared.error.AnswerTextError.TheVariants as error
 use Rattle.answer_text.proofs.Unique.{Says, comes-where}
 use Rattle.job_words.specs.declared.job.Job.{Job}
+use Rattle.job_words.specs.Words.{limit_of}
 use Rattle.reply_text.specs.declared.refusal.Refusal.{Refusal}
 use Rattle.reply_text.specs.declared.refusal.Refusal.TheVariants.{Instance, Rest, Answer, Schedule}
 use Rattle.schedule_text.proofs.Decided.{one-schedule, one-token, never-both}
 use Rattle.slab_top.specs.Stage.{Stage, IsDecided, and_then}
-use Rattle.slab_top.specs.Input.{Front, whole_input, front, nothing_behind, answer_behind}
+use Rattle.slab_top.specs.Input.{input_within, whole_input}
+use Rattle.slab_top.specs.Input.{Front, front, nothing_behind, answer_behind}
 use Rattle.slab_top.specs.Input.{something_proved, instance_alone, instance_with_answer}
 use Rattle.slab_top.specs.Input.{instance_with_proof, lines_behind, IsWrongAnswer}
 use Rattle.slab_top.specs.Input.{after_white, schedule_behind, instance_with_schedule}
@@ -57,12 +59,20 @@ module _ {A B : Type 0} (first : Stage A) (next : A → Stage B) (decided : IsDe
 
 -- ---- the length
 
-pub whole-decided : (job : Job) (input : List ℕ) → IsDecided (whole_input job input)
-whole-decided job input = record {
+within-decided : (most : Option ℕ) (input : List ℕ) → IsDecided (input_within most input)
+within-decided None input = record {
+  one = λ a b h k. h ∙ sym k;
+  why = λ r s h k. absurd h;
+  apart = λ a r h k. k;
+}
+within-decided (Some limit) input = record {
   one = λ a b h k. h.0 ∙ sym k.0;
   why = λ r s h k. h.0 ∙ sym k.0;
   apart = λ a r h k. (let within = h.1 in let long = k.1 in omega arith);
 }
+
+pub whole-decided : (job : Job) (input : List ℕ) → IsDecided (whole_input job input)
+whole-decided job = within-decided (limit_of job.command)
 
 -- ---- the instance
 

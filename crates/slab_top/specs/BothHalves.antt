@@ -1,6 +1,6 @@
 -- Both halves of the program, one after the other: what `solve` or `prove` printed is given to
 -- `check` or `verify`, behind the bytes that were read and one line feed.
-use Rattle.std.specs.Prelude.{◌≡◌, ◌↔◌, ℕ, ◌≤◌, List, ◌∷◌, ◌++◌, length, Some}
+use Rattle.std.specs.Prelude.{◌≡◌, ◌↔◌, ℕ, List, ◌∷◌, ◌++◌, Some}
 use Rattle.answer_text.specs.declared.answer.Answer.{Answer}
 use Rattle.answer_text.specs.declared.answer.Answer.TheVariants.{Optimal, Feasible, Infeasible}
 use Rattle.answer_text.specs.Text.{answer_text}
@@ -12,6 +12,7 @@ use Rattle.reply_text.specs.declared.outcome.Outcome.{Outcome}
 use Rattle.reply_text.specs.declared.outcome.Outcome.TheVariants.{Refused, Solved, Judged}
 use Rattle.reply_text.specs.declared.refusal.Refusal.TheVariants.{AnswerKind}
 use Rattle.reply_text.specs.declared.solution.Solution.{Solution}
+use Rattle.slab_top.specs.Input.{ReadsWhole}
 use Rattle.slab_top.specs.Served.{IsAnswer, IsRight, Output, Answered}
 
 -- the bytes that were read, one line feed, and what was printed
@@ -41,7 +42,7 @@ IsOnlyAnswer job bytes outcome = (other : Outcome) → IsAnswer job bytes other 
 pub record IsGivenOn (first second : Job) (input : List ℕ) (solution : Solution) : Type 0 where
   pub answered : IsAnswer first input (Solved solution)
   pub colours : second.p ≡ first.p
-  pub short : length (with_printed input solution.answer) ≤ limit_of second.command
+  pub short : ReadsWhole (limit_of second.command) (with_printed input solution.answer)
 
 -- each answer of a job of one command, given on to a job of another one, has this one right outcome
 abbrev pub IsAnsweredBehind : Command → Command → (Answer → Outcome) → Type 0
@@ -71,5 +72,5 @@ IsRightBehind search judge outcome_for =
     (first second : List (List ℕ)) (p : ℕ) (input : List ℕ) (solution : Solution) →
     AskForCommand first search p → AskForCommand second judge p →
     IsRight first (Some input) (Answered (Solved solution)) →
-    length (with_printed input solution.answer) ≤ limit_of judge →
+    ReadsWhole (limit_of judge) (with_printed input solution.answer) →
     IsOnlyRight second (with_printed input solution.answer) (outcome_for solution.answer)

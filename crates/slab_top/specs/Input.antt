@@ -1,5 +1,6 @@
 -- What the commands read from an input, stage by stage, and for what they refuse it.
 use Rattle.std.specs.Prelude.{◌≡◌, ◌≢◌, ℕ, ◌<◌, ◌≤◌, cond, List, [], ◌∷◌, length, drop}
+use Rattle.std.specs.Prelude.{Option, Some, None}
 use Rattle.mill_model.specs.Instance.{Problem}
 use Rattle.line_text.specs.Lines.{is_white, text_lines}
 use Rattle.instance_text.specs.Text.{Begins, IsRefused}
@@ -18,14 +19,26 @@ use Rattle.schedule_text.specs.Text.{IsScheduleText, IsWrongToken}
 use Rattle.judge_answer.specs.Verify.{ProvesNothing}
 use Rattle.slab_top.specs.Stage.{Stage, and_then}
 
--- ---- the length: all of the input, where it is within the limit
+-- ---- the length: all of the input, where it is within the limit; of a command without a limit
+-- nothing, whatever there is
+
+abbrev pub input_within : Option ℕ → List ℕ → Stage (List ℕ)
+input_within None input = record {
+  Reads = λ bytes. bytes ≡ [];
+  Refuses = λ why. ⊥;
+}
+input_within (Some limit) input = record {
+  Reads = λ bytes. (bytes ≡ input) × (length input ≤ limit);
+  Refuses = λ why. (why ≡ TooLong limit) × (limit < length input);
+}
 
 abbrev pub whole_input : Job → List ℕ → Stage (List ℕ)
-whole_input job input = record {
-  Reads = λ bytes. (bytes ≡ input) × (length input ≤ limit_of job.command);
-  Refuses = λ why. (why ≡ TooLong (limit_of job.command))
-      × (limit_of job.command < length input);
-}
+whole_input job = input_within (limit_of job.command)
+
+-- an input is read to its end where it is within the limit, if there is one
+abbrev pub ReadsWhole : Option ℕ → List ℕ → Type 0
+ReadsWhole None input = ⊥
+ReadsWhole (Some limit) input = length input ≤ limit
 
 -- ---- the instance that stands in front, and the place where it ends
 

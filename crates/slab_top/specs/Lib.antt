@@ -7,6 +7,7 @@ pub mod Prove
 pub mod Replay
 pub mod Check
 pub mod Verify
+pub mod Drill
 pub mod Served
 pub mod Agree
 pub mod Run

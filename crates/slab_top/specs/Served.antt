@@ -16,14 +16,16 @@ use Rattle.slab_top.specs.Prove.{Proves}
 use Rattle.slab_top.specs.Replay.{Replays}
 use Rattle.slab_top.specs.Check.{Checks}
 use Rattle.slab_top.specs.Verify.{Verifies}
+use Rattle.slab_top.specs.Drill.{Drills}
 
--- each command's relation, from a job and bytes within its limit to what is answered
+-- each command's relation, from a job and the bytes that it reads to what is answered
 abbrev pub Serves : Command → Job → List ℕ → Outcome → Type 0
 Serves command.Solve = Solves
 Serves command.Prove = Proves
 Serves command.Check = Checks
 Serves command.Verify = Verifies
 Serves command.Replay = Replays
+Serves command.Drill = λ job bytes. Drills job
 
 -- what a job answers to an input, first of all to its length
 abbrev pub IsAnswer : Job → List ℕ → Outcome → Type 0

@@ -2,7 +2,7 @@
 use Rattle.std.specs.Prelude.{ℕ, ◌≡◌, ◌<◌, ltb, cond, Bool, true, false, List, []}
 use Rattle.mill_model.specs.declared.limits.Limits.{Limits}
 use Rattle.job_words.specs.declared.command.Command.{Command}
-use Rattle.job_words.specs.declared.command.Command.TheVariants.{Solve, Prove}
+use Rattle.job_words.specs.declared.command.Command.TheVariants.{Solve, Prove, Drill}
 use Rattle.job_words.specs.declared.job.Job.{Job}
 use Rattle.job_words.specs.Words.{AskFor}
 use Rattle.solve_answer.specs.Course.{Course, Scheduled, Running}
@@ -15,6 +15,7 @@ course_of limits = cond (ltb 1 limits.workers) Running (Scheduled [])
 abbrev pub lets_run : Command → Bool
 lets_run Solve = true
 lets_run Prove = true
+lets_run Drill = true
 lets_run command = false
 
 -- a job lets more than one worker run

@@ -9,6 +9,7 @@ ghost use Rattle.slab_top.specs.Served.{Serves};
 ghost use Rattle.slab_top.specs.Threads.{NeedsThreads};
 
 mod check;
+mod drill;
 mod prove;
 mod replay;
 mod solve;
@@ -19,7 +20,7 @@ use job_words::{Command, Job};
 use reply_text::{Outcome, Stop};
 use std::alloc::Global;
 
-/// What a job answers to an input within its limit.
+/// What a job answers to what it reads: an input within its limit, or nothing.
 pub fn serve<V: Searcher>(
     searcher: &V,
     alloc: Global,
@@ -37,5 +38,6 @@ pub fn serve<V: Searcher>(
         Command::Check => check::serve(alloc, job, input),
         Command::Verify => verify::serve(alloc, job, input),
         Command::Replay => replay::serve(alloc, job, input),
+        Command::Drill => Ok(drill::serve(searcher, alloc, job)?),
     }
 }

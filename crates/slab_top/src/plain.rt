@@ -10,7 +10,7 @@ ghost use Rattle.reply_text.specs.declared.status.TheConstants.{OUT_OF_MEMORY};
 ghost use Rattle.slab_top.specs.Served.{Output, IsRight, run_of, status_of, text_of};
 ghost use Rattle.slab_top.specs.Agree.{Agree, MayEndWith};
 ghost use Rattle.slab_top.specs.Given.{IsServedWhole};
-ghost use Rattle.slab_top.specs.Run.{HasEnough, IsAnswered, IsStatus, IsToBeRead};
+ghost use Rattle.slab_top.specs.Run.{AskForNoInput, HasEnough, IsAnswered, IsStatus, IsToBeRead};
 ghost use Rattle.slab_top.specs.Threads.{NeedThreads};
 
 use crate::searcher::OneThread;
@@ -62,7 +62,7 @@ pub fn run_plain<S: Source, K: Sink>(
         (K.held sink.old) (K.held sink.new) }
     ensures ended { IsAnswered result → IfSome (S.left source.old) (λ input.
         IsToBeRead (texts words.now) input → IsAtEnd (S.left source.new)) }
-    ensures unread { ((job : Job) → AskFor (texts words.now) job → ⊥) → source.new ≡ source.old }
+    ensures unread { AskForNoInput (texts words.now) → source.new ≡ source.old }
     ensures known { IsStatus result }
     ensures read_fault { result ≡ READ_FAULT → Rose (S.faults source.old) (S.faults source.new) }
     ensures no_read_fault { result ≢ READ_FAULT → S.faults source.new ≡ S.faults source.old }

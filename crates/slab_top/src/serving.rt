@@ -1,6 +1,6 @@
 //! Serves words: reads what they ask to be read, has it answered by a searcher, and writes the answer
 //! out. What `run` and `run_plain` promise is proved here, for each searcher.
-ghost use Rattle.std.specs.Prelude.{◌≡◌, ◌≢◌, ◌≤◌, ◌++◌, ℕ, true, List, Err, None, length, IfOk};
+ghost use Rattle.std.specs.Prelude.{◌≡◌, ◌≢◌, ◌++◌, ℕ, true, List, Err, None, IfOk};
 ghost use Rattle.std.specs.Prelude.{IfSome, IsErrOf, IsSome, OnOk};
 ghost use Rattle.std.specs.Io.KnownBytes.{Appends, IsAtEnd};
 ghost use Rattle.mill_io.specs.Causes.{Rose};
@@ -11,10 +11,13 @@ ghost use Rattle.reply_text.specs.Outcome as told;
 ghost use Rattle.reply_text.specs.Outcome.{IsToTell};
 ghost use Rattle.reply_text.specs.declared.status.TheConstants.{FEASIBLE, READ_FAULT, WRITE_FAULT};
 ghost use Rattle.reply_text.specs.declared.status.TheConstants.{OUT_OF_MEMORY};
-ghost use Rattle.slab_top.specs.Served.{Output, IsRight, IsServed, run_of, status_of, text_of};
+ghost use Rattle.slab_top.specs.Input.{ReadsWhole};
+ghost use Rattle.slab_top.specs.Served.{Output, IsRight, IsServed, Serves};
+ghost use Rattle.slab_top.specs.Served.{run_of, status_of, text_of};
 ghost use Rattle.slab_top.specs.Agree.{Agree, MayEndWith};
 ghost use Rattle.slab_top.specs.Given.{HasAnswered, IsServedWhole};
-ghost use Rattle.slab_top.specs.Run.{HasEnough, IsAnswered, IsOwnStatus, IsStatus, IsToBeRead};
+ghost use Rattle.slab_top.specs.Run.{AskForNoInput, HasEnough, IsAnswered, IsOwnStatus, IsStatus};
+ghost use Rattle.slab_top.specs.Run.{IsToBeRead};
 ghost use Rattle.slab_top.specs.Threads.{NeedThreads, NeedsThreads};
 
 use crate::commands::serve;
@@ -23,7 +26,7 @@ use job_words::{Job, read_words, write_usage};
 use mill_io::{ReadError, Sink, Source, read_all};
 use refute_log::Run;
 use reply_text::{
-    OUT_OF_MEMORY, Outcome, READ_FAULT, Refusal, Reply, Stop, WRITE_FAULT, WRONG_WORDS,
+    OUT_OF_MEMORY, Outcome, READ_FAULT, Refusal, Stop, WRITE_FAULT, WRONG_WORDS,
 };
 use std::alloc::Global;
 
@@ -46,7 +49,7 @@ fn outcome_of<V: Searcher, S: Source>(
     ensures served { IfOk result (IsServed job (S.left source.old)) }
     ensures told { IfOk result IsToTell }
     ensures ended { OnOk result (IfSome (S.left source.old) (λ input.
-        length input ≤ limit_of job.command → IsAtEnd (S.left source.new))) }
+        ReadsWhole (limit_of job.command) input → IsAtEnd (S.left source.new))) }
     ensures given { IfOk result (HasAnswered job (S.given source.old) (S.given source.new)
         (S.ended source.new)) }
     ensures lost { GivesLost (S.left source.old) (S.left source.new)
@@ -54,38 +57,57 @@ fn outcome_of<V: Searcher, S: Source>(
     ensures fault { IsErrOf result Failure.ReadFault
         → Rose (S.faults source.old) (S.faults source.new) }
     ensures kept { result ≢ Err Failure.ReadFault → S.faults source.new ≡ S.faults source.old }
+    ensures unread { limit_of job.command ≡ None → source.new ≡ source.old }
 {
-    // A command that reads nothing goes here, before the reading.
-    let limit = job.command.limit();
+    let Some(limit) = job.command.limit() else {
+        return answered(searcher, alloc, job, &[]);
+    };
     let input = match read_all(alloc, source, limit) {
         Ok(input) => input,
         Err(ReadError::TooLong) => return Ok(Outcome::Refused(Refusal::TooLong { limit })),
         Err(ReadError::ReadFault) => return Err(Failure::ReadFault),
         Err(ReadError::OutOfMemory) => return Err(Failure::OutOfMemory),
     };
-    match serve(searcher, alloc, job, &input) {
+    answered(searcher, alloc, job, &input)
+}
+
+// What a job answers to what it reads; a refusal is an answer too.
+fn answered<V: Searcher>(
+    searcher: &V,
+    alloc: Global,
+    job: Job,
+    input: &[u8],
+) -> Result<Outcome, Failure>
+    requires in_range { IsInRange job }
+    requires threads { NeedsThreads job → V.has_threads ≡ true }
+    ensures served { IfOk result (Serves job.command job input.now) }
+    ensures told { IfOk result IsToTell }
+    ensures fault { result ≢ Err Failure.ReadFault }
+{
+    match serve(searcher, alloc, job, input) {
         Ok(outcome) => Ok(outcome),
         Err(Stop::Refused(why)) => Ok(Outcome::Refused(why)),
         Err(Stop::OutOfMemory) => Err(Failure::OutOfMemory),
     }
 }
 
-// Writes a reply, and gives its status where that succeeds. It takes no memory.
-fn write_out<K: Sink>(sink: &mut K, reply: &Reply) -> u8
-    requires own { IsOwnStatus reply.now.status }
+// Writes an outcome, and gives its status where that succeeds. It takes no memory.
+fn write_out<K: Sink>(sink: &mut K, outcome: &Outcome) -> u8
+    requires told { IsToTell outcome.now }
+    requires own { IsOwnStatus (told.status_of outcome.now) }
     ensures known { IsStatus result }
-    ensures status { result ≢ WRITE_FAULT → result ≡ reply.now.status }
+    ensures status { result ≢ WRITE_FAULT → result ≡ told.status_of outcome.now }
     ensures whole { result ≢ WRITE_FAULT
-        → Appends (K.written sink.old) (K.written sink.new) reply.now.text }
+        → Appends (K.written sink.old) (K.written sink.new) (told.text_of outcome.now) }
     ensures kept { result ≢ WRITE_FAULT → K.faults sink.new ≡ K.faults sink.old }
     ensures front { result ≡ WRITE_FAULT
-        → AppendsFront (K.written sink.old) (K.written sink.new) reply.now.text }
+        → AppendsFront (K.written sink.old) (K.written sink.new) (told.text_of outcome.now) }
     ensures held { AppendsToBoth (K.written sink.old) (K.written sink.new)
         (K.held sink.old) (K.held sink.new) }
     ensures fault { result ≡ WRITE_FAULT → Rose (K.faults sink.old) (K.faults sink.new) }
 {
-    match reply.write(sink) {
-        Ok(()) => reply.status(),
+    match outcome.write(sink) {
+        Ok(()) => outcome.status(),
         Err(_) => WRITE_FAULT,
     }
 }
@@ -146,7 +168,7 @@ pub fn serve_words<V: Searcher, S: Source, K: Sink>(
         (K.held sink.old) (K.held sink.new) }
     ensures ended { IsAnswered result → IfSome (S.left source.old) (λ input.
         IsToBeRead (texts words.now) input → IsAtEnd (S.left source.new)) }
-    ensures unread { ((job : Job) → AskFor (texts words.now) job → ⊥) → source.new ≡ source.old }
+    ensures unread { AskForNoInput (texts words.now) → source.new ≡ source.old }
     ensures known { IsStatus result }
     ensures read_fault { result ≡ READ_FAULT → Rose (S.faults source.old) (S.faults source.new) }
     ensures no_read_fault { result ≢ READ_FAULT → S.faults source.new ≡ S.faults source.old }
@@ -167,14 +189,11 @@ pub fn serve_words<V: Searcher, S: Source, K: Sink>(
         };
     };
     match outcome_of(searcher, alloc, job, source) {
-        Ok(outcome) => match outcome.reply(alloc) {
-            Ok(reply) => {
-                let status = write_out(sink, &reply);
-                *kept = run_behind(outcome, status);
-                status
-            }
-            Err(_) => OUT_OF_MEMORY,
-        },
+        Ok(outcome) => {
+            let status = write_out(sink, &outcome);
+            *kept = run_behind(outcome, status);
+            status
+        }
         Err(Failure::ReadFault) => READ_FAULT,
         Err(Failure::OutOfMemory) => OUT_OF_MEMORY,
     }

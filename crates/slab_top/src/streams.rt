@@ -9,7 +9,7 @@ ghost use Rattle.reply_text.specs.declared.status.TheConstants.{OUT_OF_MEMORY};
 ghost use Rattle.slab_top.specs.Served.{IsRight, Output, run_of, status_of, text_of};
 ghost use Rattle.slab_top.specs.Agree.{MayEndWith};
 ghost use Rattle.slab_top.specs.Given.{IsServedWhole};
-ghost use Rattle.slab_top.specs.Run.{HasEnough, IsAnswered, IsStatus};
+ghost use Rattle.slab_top.specs.Run.{AskForNoInput, HasEnough, IsAnswered, IsStatus};
 
 use crate::top::run;
 use mill_io::{StdSink, StdSource};
@@ -66,11 +66,9 @@ pub fn run_streams<H: Threads + Wait + Sync, R: Read, W: Write, G: Gate>(
     ensures enough { HasEnough (texts words.now) (bytes_given result.source)
         → result.status ≢ FEASIBLE }
 
-    // Where the words ask for nothing, the reader is as it was.
-    ensures unread { ((job : Job) → AskFor (texts words.now) job → ⊥)
-        → bytes_given result.source ≡ [] }
-    ensures untouched { ((job : Job) → AskFor (texts words.now) job → ⊥)
-        → reader_of result.source ≡ reader }
+    // Where the words ask for nothing, or for what reads nothing, the reader is as it was.
+    ensures unread { AskForNoInput (texts words.now) → bytes_given result.source ≡ [] }
+    ensures untouched { AskForNoInput (texts words.now) → reader_of result.source ≡ reader }
     ensures known { IsStatus result.status }
 
     // The statuses of the two faults come exactly where a stream counted a fault.

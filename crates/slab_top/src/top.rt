@@ -10,7 +10,7 @@ ghost use Rattle.reply_text.specs.declared.status.TheConstants.{OUT_OF_MEMORY};
 ghost use Rattle.slab_top.specs.Served.{Output, IsRight, run_of, status_of, text_of};
 ghost use Rattle.slab_top.specs.Agree.{Agree, MayEndWith};
 ghost use Rattle.slab_top.specs.Given.{IsServedWhole};
-ghost use Rattle.slab_top.specs.Run.{HasEnough, IsAnswered, IsStatus, IsToBeRead};
+ghost use Rattle.slab_top.specs.Run.{AskForNoInput, HasEnough, IsAnswered, IsStatus, IsToBeRead};
 ghost use Rattle.slab_top.specs.Threads.{NeedThreads, lets_run};
 
 use crate::plain::run_plain;
@@ -24,7 +24,7 @@ use std::sync::Wait;
 use std::thread::Threads;
 use steal_workers::Gate;
 
-/// Whether the words ask for `solve` or `prove` with more than one worker.
+/// Whether the words ask for `solve`, `prove` or `drill` with more than one worker.
 pub fn needs_threads(words: &[String]) -> bool
     ensures { (result ≡ true) ↔ NeedThreads (texts words.now) }
 {
@@ -38,21 +38,22 @@ pub fn needs_threads(words: &[String]) -> bool
 fn lets_run(command: Command) -> bool
     ensures { result ≡ lets_run command }
 {
-    matches!(command, Command::Solve | Command::Prove)
+    matches!(command, Command::Solve | Command::Prove | Command::Drill)
 }
 
 /// The top call: serves what the words ask for, gives the status that the program ends with, and
 /// hands out the run behind a feasible answer in `kept`. `solve`, `prove` and `replay` answer an
-/// instance. More workers than one of `solve` and `prove` run in threads: such a call waits for
-/// them, and each of them passes the gate with each path that it is to close.
+/// instance, and `drill` tells how it would answer one that it makes. More workers than one of
+/// `solve`, `prove` and `drill` run in threads: such a call waits for them, and each of them passes
+/// the gate with each path that it is to close.
 ///
 /// | status | where |
 /// |---|---|
-/// | 0 | an answering command wrote an optimal plan; or `check` or `verify` accepted the answer |
+/// | 0 | an answering command wrote an optimal plan, or `drill` what one loses; or `check` or `verify` accepted the answer |
 /// | 1 | an answering command wrote the first order that no slab holds |
 /// | 2 | the words ask for nothing that the program does |
 /// | 3 | the input was refused |
-/// | 4 | an answering command wrote a feasible plan: the budget was spent, and a path is left |
+/// | 4 | an answering command wrote a feasible plan, or `drill` what it loses: the budget was spent, and a path is left |
 /// | 5 | a read failed; nothing was written |
 /// | 6 | a write failed; a front of the text was written |
 /// | 7 | want of memory; nothing was written |
@@ -115,7 +116,7 @@ pub fn run<R: Threads + Wait + Sync, S: Source, K: Sink, G: Gate>(
     // Bytes that are to be read were read to the end, and else none was.
     ensures ended { IsAnswered result → IfSome (S.left source.old) (λ input.
         IsToBeRead (texts words.now) input → IsAtEnd (S.left source.new)) }
-    ensures unread { ((job : Job) → AskFor (texts words.now) job → ⊥) → source.new ≡ source.old }
+    ensures unread { AskForNoInput (texts words.now) → source.new ≡ source.old }
     ensures known { IsStatus result }
 
     // A fault of the source is the one cause of its status, and has no other; so with the sink.

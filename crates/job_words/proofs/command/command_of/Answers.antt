@@ -7,8 +7,7 @@ use Rattle.job_words.proofs.command.command_of.Goals as goal
 
 pub returns-clause-some : goal.returns-clause-some
 returns-clause-some c =
-    subst (λ meaning. IfSome meaning (λ it. IfSome it (λ command.
-    c.args.word.now ≡ spelling command))) (sym c.in_ok-served.ensures)
-    (found (λ name meaning. IfSome meaning (λ command. name ≡ spelling command))
-    c.args.word.now
-    (map (λ row. (row.0.now, row.1)) COMMANDS) (refl, (refl, (refl, (refl, (refl, (tt, tt)))))))
+    subst (λ it. IfSome it (λ command. c.args.word.now ≡ spelling command)) (sym c.served.ensures)
+    (found (λ name command. name ≡ spelling command) c.args.word.now
+    (map (λ row. (row.0.now, row.1)) COMMANDS)
+    (refl, (refl, (refl, (refl, (refl, (refl, tt)))))))

@@ -1,0 +1,4 @@
+pub mod Events
+pub mod Losses
+pub mod AtWork
+pub mod Ends

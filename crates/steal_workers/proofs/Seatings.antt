@@ -1,0 +1,64 @@
+-- What the seats of all workers know together.
+use Rattle.std.proofs.Common.{◌≡◌, ℕ, zero, suc, ◌<◌, ◌≤◌, ◌+◌, ◌⊎◌, Bool, List, [], ◌∷◌, ◌++◌, length}
+use Rattle.std.proofs.Common.{get_or, min, refl, sym, ap, ◌∙◌, subst, arith, All, Contains, count_by}
+use Rattle.std.proofs.Common.{cond, inl, inr, Some, append_assoc}
+use Rattle.std.proofs.lemmas.List.Elements.{All-cons, All-nil, All-pop, All-weaker}
+use Rattle.std.proofs.lemmas.List.Elements.{Contains-append_cases}
+use Rattle.std.proofs.lemmas.List.Sums.{sum_by-append}
+use Rattle.core_machine.specs.Counts.{sum_of}
+use Rattle.shared_words.specs.Best.{LeastLoss}
+use Rattle.shared_words.specs.Meter.{TicketMeter}
+use Rattle.steal_workers.specs.Seats.{AreJoined, AreSeatsOf, IsPublished, both_seats}
+use Rattle.steal_workers.specs.declared.seats.Seats.{Seats}
+
+-- published by a later one
+later : (seats : Seats) (all : List Seats) (loss : ℕ) → IsPublished all loss →
+    IsPublished (seats ∷ all) loss
+later seats all loss p =
+    record { number = suc p.number; there = omega (arith, p.there); by = λ d. p.by d }
+
+pub joins-one : (best : LeastLoss) (meter : TicketMeter) (seats : Seats) →
+    AreSeatsOf best meter seats → AreJoined best meter (seats ∷ []) seats
+joins-one best meter seats is = record {
+  loss = is.loss;
+  loss_shares = is.loss_share;
+  ticket = is.ticket;
+  ticket_shares = is.ticket_share;
+  seen = All-cons (λ (s : Seats). seats.loss.seen ≤ s.loss.seen) seats [] (omega arith)
+      (All-nil (λ (s : Seats). seats.loss.seen ≤ s.loss.seen));
+  published = λ loss has. record { number = 0; there = omega arith; by = λ d. has };
+  tickets = λ test. omega arith;
+}
+
+pub joins-more : (best : LeastLoss) (meter : TicketMeter) (other : Seats) (all : List Seats)
+    (whole whole' : Seats) → AreSeatsOf best meter other → AreJoined best meter all whole →
+    whole' ≡ both_seats whole other → AreJoined best meter (other ∷ all) whole'
+joins-more best meter other all whole whole' is joined e =
+    subst (AreJoined best meter (other ∷ all)) (sym e)
+    (record {
+      loss = joined.loss;
+      loss_shares = omega (arith, joined.loss_shares, is.loss_share);
+      ticket = joined.ticket;
+      ticket_shares = omega (arith, joined.ticket_shares, is.ticket_share);
+      seen = All-cons (λ (s : Seats). min whole.loss.seen other.loss.seen ≤ s.loss.seen) other all
+          (omega arith)
+          (All-weaker (λ (s : Seats). whole.loss.seen ≤ s.loss.seen)
+          (λ (s : Seats). min whole.loss.seen other.loss.seen ≤ s.loss.seen)
+          (λ s l. omega (arith, l)) all joined.seen);
+      published = λ loss has. elim (Contains-append_cases whole.loss.mine other.loss.mine loss has) [
+        | inl before ↦ later other all loss (joined.published loss before)
+        | inr here ↦ record { number = 0; there = omega arith; by = λ d. here }
+      ];
+      tickets = λ test. omega (
+        arith,
+        joined.tickets test,
+        sum_by-append (λ n. cond (test n) 1 0) whole.ticket.tickets other.ticket.tickets,
+      );
+    })
+
+-- the last of the seats comes first, and then one after another before it
+pub starts-joined : (best : LeastLoss) (meter : TicketMeter) (all rest : List Seats) (last : Seats) →
+    all ≡ rest ++ last ∷ [] → All (AreSeatsOf best meter) all →
+    All (AreSeatsOf best meter) rest × AreSeatsOf best meter last
+starts-joined best meter all rest last is each =
+    All-pop (AreSeatsOf best meter) all rest (Some last) is each

@@ -8,9 +8,7 @@ use crate::machine::Machine;
 use crate::schedules::Draws;
 use crate::setting::Setting;
 use core_replay::replay;
-use log_checker::{LogVerdict, check_log};
 use mill_model::{Limits, OutOfMemory};
-use piece_merge::merge;
 use std::alloc::Global;
 use std::test::Fail;
 
@@ -48,10 +46,7 @@ fn replayed(
     };
     let machine = Machine::left_by(alloc, setting, limits, start.loss, schedule)?;
     let Setting {
-        instance,
-        ranked,
-        charges,
-        ..
+        ranked, charges, ..
     } = setting;
     let run = replay(alloc, ranked, charges, start, limits, schedule)?;
     let as_the_machine = machine.is_some_and(|machine| machine.is_seen_in(&run));
@@ -60,12 +55,7 @@ fn replayed(
         records = records.saturating_add(piece.entries().len() as u64);
     }
     let loss = run.loss;
-    let mut refutes = None;
-    if run.unclosed.is_empty() {
-        let log = merge(alloc, ranked.len(), run.pieces)?;
-        let verdict = check_log(alloc, instance, charges, loss, &log)?;
-        refutes = Some(matches!(verdict, LogVerdict::Refutes));
-    }
+    let refutes = setting.refutes(alloc, run)?;
     Ok(Some(Seen {
         loss,
         records,

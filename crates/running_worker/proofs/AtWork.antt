@@ -1,14 +1,9 @@
 -- A step keeps a worker at work.
-use Rattle.std.proofs.Common.{ℕ, ◌+◌, ◌≤◌, ◌≡◌, ◌≢◌, ◌⊎◌, inl, inr, true, nat_lt, List, [], ◌∷◌}
-use Rattle.std.proofs.Common.{◌++◌, length, All, Option, Some, None, count_by, refl, sym, ap, ◌∙◌}
+use Rattle.std.proofs.Common.{ℕ, ◌+◌, ◌≤◌, ◌≡◌, ◌≢◌, ◌⊎◌, inl, inr, nat_lt, List, []}
+use Rattle.std.proofs.Common.{All, count_by, refl, sym, ap, ◌∙◌}
 use Rattle.std.proofs.Common.{subst, arith}
-use Rattle.std.specs.List.{AllByRecursion}
 use Rattle.std.proofs.lemmas.List.Elements.{All-push, All-weaker}
 use Rattle.list_laws.specs.Sets.{times, same_list}
-use Rattle.mill_model.specs.Charges.{ChargeTable}
-use Rattle.mill_model.specs.declared.plan.Start.{Start}
-use Rattle.order_symmetry.specs.Ranked.{RankedOrders}
-use Rattle.refute_log.specs.Fits.{fits}
 use Rattle.search_step.specs.Accounts.{Keeps, came, tickets, went}
 use Rattle.search_step.specs.Honest.{KeepsHonest}
 use Rattle.search_step.specs.Parts.{Parts}
@@ -160,7 +155,7 @@ module _ (start : ℕ) (first : Running) (w : WorkerParts) (h : Running)
   }
 
 -- a worker that goes by the same, with its parts
-same-worker : (w w' : WorkerParts) → w'.ranked ≡ w.ranked → w'.charges ≡ w.charges →
+pub same-worker : (w w' : WorkerParts) → w'.ranked ≡ w.ranked → w'.charges ≡ w.charges →
     w'.number ≡ w.number → w'.workers ≡ w.workers → record w { parts = w'.parts } ≡ w'
 same-worker w w' ranked charges number workers =
     sym (ap (λ r. record w' { ranked = r }) ranked
@@ -177,3 +172,8 @@ pub stays-at-work : (w w' : WorkerParts) (h h' : Running) (turn : Turn) →
 stays-at-work w w' h h' turn step keeps honest ranked charges number workers start first at =
     subst (λ v. IsAtWork start first v h') (same-worker w w' ranked charges number workers)
     (a-step-keeps-it start first w h at turn w'.parts h' step keeps honest)
+
+-- over two runs of steps, one after the other
+pub still-at-work : (w v u : WorkerParts) (h g f : Running) → StaysAtWork w h v g →
+    StaysAtWork v g u f → StaysAtWork w h u f
+still-at-work w v u h g f once again start first at = again start first (once start first at)

@@ -1,25 +1,25 @@
 -- The worker of a job is at work before its first step, and what it leaves after its last one is
 -- what the job has worked.
-use Rattle.std.proofs.Common.{ℕ, ◌+◌, ◌<◌, ◌≤◌, ◌≡◌, ◌≢◌, true, nat_lt, List, [], ◌∷◌, ◌++◌, length}
-use Rattle.std.proofs.Common.{All, Option, Some, None, count_by, refl, sym, ap, ◌∙◌, subst, arith}
+use Rattle.std.proofs.Common.{ℕ, ◌<◌, ◌≡◌, ◌≢◌, true, nat_lt, List, [], ◌∷◌, length}
+use Rattle.std.proofs.Common.{All, Some, None, count_by, refl, sym, ap, ◌∙◌, subst, arith}
 use Rattle.std.specs.List.{AllByRecursion}
 use Rattle.std.proofs.lemmas.List.Elements.{All-nil}
 use Rattle.list_laws.specs.Sets.{times, same_list}
 use Rattle.mill_model.specs.Charges.{ChargeTable}
 use Rattle.order_symmetry.specs.Ranked.{RankedOrders}
 use Rattle.search_step.specs.Honest.{IsHonest}
-use Rattle.search_step.specs.Moves.{after, new_worker}
+use Rattle.search_step.specs.Moves.{new_worker}
 use Rattle.search_step.specs.Parts.{Parts}
-use Rattle.search_step.specs.Steps.{FitsMill, IsSafe, task_at}
-use Rattle.search_step.specs.Worker.{IsWorker, WorkerParts}
+use Rattle.search_step.specs.Steps.{FitsMill, IsSafe}
+use Rattle.search_step.specs.Worker.{WorkerParts}
 use Rattle.search_step.specs.declared.parts.Phase.{Phase}
 use Rattle.search_step.specs.declared.parts.Phase.TheVariants.{Publishing}
-use Rattle.search_step.specs.declared.worker.WorkerEnd.{WorkerEnd}
 use Rattle.search_step.proofs.Branches.{after-below, after-other}
 use Rattle.core_machine.specs.Ends.{is_calm}
 use Rattle.shared_words.specs.Best.{LossSeat}
 use Rattle.shared_words.specs.Meter.{TicketSeat}
 use Rattle.steal_deques.specs.Deque.{DequeOwner, DequeThief}
+use Rattle.running_worker.proofs.AtWork.{same-worker}
 use Rattle.running_worker.proofs.Events.{same-hand}
 use Rattle.running_worker.specs.AtWork.{IsAtWork}
 use Rattle.running_worker.specs.Jobs.{IsJobOf, IsNewThief, hand_of}
@@ -87,9 +87,9 @@ module _ (ranked : RankedOrders) (charges : ChargeTable) (round : Round) (job : 
         subst (All (LosesAtMost new.best)) (sym is.published) (All-nil (LosesAtMost new.best));
   }
 
-  pub begins : FitsMill ranked charges → IsHonest ranked charges round.loss new →
+  begins-new : FitsMill ranked charges → IsHonest ranked charges round.loss new →
       IsAtWork round.loss (hand_of ranked round job) (worker new) (hand_of ranked round job)
-  begins mill honest = record {
+  begins-new mill honest = record {
     worker = record {
       among = is.among;
       few = is.few;
@@ -101,6 +101,21 @@ module _ (ranked : RankedOrders) (charges : ChargeTable) (round : Round) (job : 
     knows = λ quiet. is.seen;
     publishes = λ e. absurd (cc);
   }
+
+  pub begins : FitsMill ranked charges → (w : WorkerParts) → w.ranked ≡ ranked →
+      w.charges ≡ charges → w.number ≡ job.number → w.workers ≡ round.workers → w.parts ≡ new →
+      IsHonest ranked charges round.loss w.parts → (h : Running) →
+      h ≡ hand_of ranked round job →
+      IsAtWork round.loss (hand_of ranked round job) w h
+  begins mill w same_orders same_charges number workers parts honest h hand =
+      subst (λ v. IsAtWork round.loss (hand_of ranked round job) v h) made
+      (subst (IsAtWork round.loss (hand_of ranked round job) (worker new)) (sym hand)
+      (begins-new mill (subst (IsHonest ranked charges round.loss) parts honest)))
+    where
+      made : worker new ≡ w
+      made =
+          sym (same-worker w (worker new) (sym same_orders) (sym same_charges) (sym number)
+          (sym workers)) ∙ ap (λ (p : Parts). record w { parts = p }) (sym parts)
 
   pub has-worked : (w : WorkerParts) (h : Running) (done : JobEnd) →
       IsAtWork round.loss (hand_of ranked round job) w h → w.ranked ≡ ranked →

@@ -1,7 +1,7 @@
 -- What each call on a running hand changes. The seats and ends stay the same ones, what came to the
 -- worker was popped or stolen, what went from it was pushed, and each ticket is one more number
 -- below the budget.
-use Rattle.std.proofs.Common.{ℕ, zero, suc, ◌+◌, ◌<◌, ◌≡◌, Bool, true, false, cond, ltb, nat_lt}
+use Rattle.std.proofs.Common.{ℕ, zero, suc, ◌+◌, ◌<◌, ◌≡◌, Bool, true, false, cond, nat_lt}
 use Rattle.std.proofs.Common.{List, [], ◌∷◌, ◌++◌, length, set, get_or, count_by, Option, Some, None}
 use Rattle.std.proofs.Common.{inl, inr, refl, sym, ap, ◌∙◌, subst, arith}
 use Rattle.std.proofs.lemmas.List.Sums.{sum_by_push}
@@ -159,7 +159,14 @@ module _ (x : List ℕ) where
         let no_went : count (went e) ≡ 0 = ap count w in
         let no_came : count (came e) ≡ 0 = ap count c in
         record {
-          same = record (same-hand h) { loss_seat = same };
+          same = record {
+            number = refl;
+            meter = refl;
+            loss_seat = same;
+            ticket_seat = same-tickets h.ticket_seat;
+            own = same-owner h.own;
+            thieves = same-thieves h.thieves;
+          };
           pushed = omega arith;
           taken = omega arith;
           drawn = omega (arith, t);
@@ -173,7 +180,14 @@ module _ (x : List ℕ) where
         let no_went : count (went e) ≡ 0 = ap count w in
         let no_came : count (came e) ≡ 0 = ap count c in
         record {
-          same = record (same-hand h) { ticket_seat = same };
+          same = record {
+            number = refl;
+            meter = refl;
+            loss_seat = same-losses h.loss_seat;
+            ticket_seat = same;
+            own = same-owner h.own;
+            thieves = same-thieves h.thieves;
+          };
           pushed = omega arith;
           taken = omega arith;
           drawn = t;
@@ -183,7 +197,14 @@ module _ (x : List ℕ) where
         count own.pushed ≡ count h.own.pushed + count (went e) →
         count own.popped ≡ count h.own.popped + count (came e) → Changes e h (with_own h own)
     with-own e own same t w c = record {
-      same = record (same-hand h) { own = same };
+      same = record {
+        number = refl;
+        meter = refl;
+        loss_seat = same-losses h.loss_seat;
+        ticket_seat = same-tickets h.ticket_seat;
+        own = same;
+        thieves = same-thieves h.thieves;
+      };
       pushed = w;
       taken = omega (arith, c);
       drawn = omega (arith, t);
@@ -228,7 +249,12 @@ module _ (x : List ℕ) where
         let no_went : count (went (Some (Stole victim path))) ≡ 0 = refl in
         let no_ticket : tickets (Some (Stole victim path)) ≡ 0 = refl in
         record {
-          same = record (same-hand h) {
+          same = record {
+            number = refl;
+            meter = refl;
+            loss_seat = same-losses h.loss_seat;
+            ticket_seat = same-tickets h.ticket_seat;
+            own = same-owner h.own;
             thieves = subst (SameThieves h.thieves) (sym steals.became)
                 (replaced-same h.thieves place steals.thief steals.next steals.there steals.is
                 (try-same steals.thief path steals.next steals.tries));
@@ -267,11 +293,11 @@ module _ (x : List ℕ) where
   pub did-changes : (e : Option Event) (h h' : Running) → DidMaybe running_did h e h' →
       Changes e h h'
   did-changes None h h' same = subst (Changes None h) (sym same) (still h)
-  did-changes (Some (Took path)) h h' (own, pops, is) =
-      subst (Changes (Some (Took path)) h) (sym is) (pop-changes h path own pops)
-  did-changes (Some (Stole victim path)) h h' (thieves, steals, is) =
+  did-changes (Some (Took path)) h h' (pops, is) =
+      subst (Changes (Some (Took path)) h) (sym is) (pop-changes h path h'.own pops)
+  did-changes (Some (Stole victim path)) h h' (steals, is) =
       subst (Changes (Some (Stole victim path)) h) (sym is)
-      (steal-changes h victim path thieves steals)
+      (steal-changes h victim path h'.thieves steals)
   did-changes (Some (Pushed path)) h h' is =
       subst (Changes (Some (Pushed path)) h) (sym is)
       (with-own h (Some (Pushed path)) _

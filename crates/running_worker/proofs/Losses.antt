@@ -1,8 +1,8 @@
 -- What a step over a running hand leaves of losses. Only a look and a publishing change what the
 -- seat saw, only a look and a better plan change what the worker knows, and only the loss of its own
 -- plan is published.
-use Rattle.std.proofs.Common.{ℕ, ◌≤◌, ◌≡◌, ◌≢◌, ◌⊎◌, inl, inr, min, true, cond, ltb, List, [], ◌∷◌}
-use Rattle.std.proofs.Common.{◌++◌, Option, Some, None, refl, sym, ap, ◌∙◌, subst, arith}
+use Rattle.std.proofs.Common.{ℕ, ◌≤◌, ◌≡◌, ◌≢◌, ◌⊎◌, inl, inr, min, true, List, [], ◌∷◌}
+use Rattle.std.proofs.Common.{◌++◌, Option, Some, None, refl, ap, ◌∙◌, arith}
 use Rattle.mill_model.specs.Charges.{ChargeTable}
 use Rattle.mill_model.specs.declared.limits.Draw.{Draw}
 use Rattle.mill_model.specs.declared.limits.Draw.TheVariants.{Ticket, Spent}
@@ -123,10 +123,10 @@ module _ (ranked : RankedOrders) (charges : ChargeTable) (workers number : ℕ) 
       StepAt running_did ranked charges workers number phase w h turn w' h' → Leaves
   leaves-at Resting n (stands, (hears, is), becomes) =
       same-seat (ap (λ (g : Running). g.loss_seat) is) (became becomes.0 (rested-known w stands))
-  leaves-at Taking n (path, (own, pops, is), tree, becomes) =
+  leaves-at Taking n (path, (pops, is), tree, becomes) =
       same-seat (ap (λ (g : Running). g.loss_seat) is)
       (became becomes.0 (took-known w workers path))
-  leaves-at Stealing n (path, (thieves, steals, is), tree, becomes) =
+  leaves-at Stealing n (path, (steals, is), tree, becomes) =
       same-seat (ap (λ (g : Running). g.loss_seat) is)
       (became becomes.0 (stole-known w workers number path))
   leaves-at Holding n (draw, (answers, is), becomes) =

@@ -22,8 +22,8 @@ pub record MayGoOn (w : WorkerParts) (h : Running) : Type 0 where
   pub serves : Serves (running_serves h) w.ranked w.workers w.number
   pub may : MayStep w.parts.phase (running_may h)
 
--- Since the hand was a first one, the worker has done its work as it should. But where it is to
--- publish the loss of the plan that it keeps, it knows no less than its seat saw.
+-- What a worker has done since its hand was a first one. It knows no less than its seat saw, unless
+-- it is to publish: then the plan that it keeps loses no more than it knows.
 pub record IsAtWork (start : ℕ) (first : Running) (w : WorkerParts) (h : Running) : Type 0 where
   pub worker : IsWorker w
   pub same : SameHand first h

@@ -1,5 +1,5 @@
 -- What a worker of a round begins with.
-use Rattle.std.specs.Prelude.{ℕ, ◌≡◌, ◌<◌, ◌≤◌, ◌+◌, [], length}
+use Rattle.std.specs.Prelude.{◌≡◌, ◌<◌, ◌≤◌, ◌+◌, [], length}
 use Rattle.std.specs.List.{AllByRecursion}
 use Rattle.order_symmetry.specs.Ranked.{RankedOrders}
 use Rattle.shared_words.specs.Best.{IsLossSeatOf}
@@ -11,7 +11,7 @@ use Rattle.running_worker.specs.Running.{Running}
 
 -- a thief of some deque for paths in the tree of these orders, which has stolen nothing yet
 pub record IsNewThief (ranked : RankedOrders) (thief : DequeThief) : Type 0 where
-  pub ranked : thief.ranked ≡ ranked
+  pub orders : thief.ranked ≡ ranked
   pub stolen : thief.stolen ≡ []
 
 -- A job of a round over these ranked orders: its seats are of the round's words, it has a thief for

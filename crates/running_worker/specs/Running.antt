@@ -110,11 +110,10 @@ pub record Hears (seat : TicketSeat) (answer : Standing) : Type 0 where
   pub again : seat.heard ≡ true → is_halted answer ≡ true
 
 abbrev pub running_did : Running → Event → Running → Type 0
-running_did h (Took path) h' =
-    (own : DequeOwner) × Pops h.own path own × (h' ≡ with_own h own)
+running_did h (Took path) h' = Pops h.own path h'.own × (h' ≡ with_own h h'.own)
 running_did h (Stole victim path) h' =
-    (thieves : List DequeThief) × Steals h.thieves (place_of h.number victim) path thieves
-    × (h' ≡ with_thieves h thieves)
+    Steals h.thieves (place_of h.number victim) path h'.thieves
+    × (h' ≡ with_thieves h h'.thieves)
 running_did h (Pushed path) h' =
     h' ≡ with_own h (record h.own { pushed = h.own.pushed ++ path ∷ [] })
 running_did h (Refused path) h' = h' ≡ h

@@ -11,7 +11,7 @@ pub struct Round {
     /// How many paths are in a deque or with a worker that didn't rest since it took one. Where
     /// there is none, a worker stops. It is a hint, on which nothing else rests.
     pub open_paths: AtomicU64,
-    /// How many they are.
+    /// How many workers there are.
     pub workers: u16,
     /// The loss that each of them knows at the start.
     pub loss: u64,

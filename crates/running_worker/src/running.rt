@@ -1,5 +1,5 @@
 //! A worker that runs to its end.
-ghost use Rattle.std.specs.Prelude.{◌≡◌, ◌≤◌, true, All, IfOk, OnOk};
+ghost use Rattle.std.specs.Prelude.{◌≡◌, ◌≤◌, true, All, IfOk, OnErr, OnOk};
 ghost use Rattle.mill_model.specs.Charges.{Reaches};
 ghost use Rattle.order_symmetry.specs.Ranked.{orders_of};
 ghost use Rattle.search_step.specs.Worker.{WorkerParts};
@@ -44,7 +44,7 @@ pub fn work<'a, R: Wait, G: Gate>(
     Ok(hand.end(worker.finish()))
 }
 
-// Steps until the worker answers that it stopped.
+// Steps until the worker answers that it stopped. Where it wants memory, it calls a halt.
 fn run<'a, R: Wait, G: Gate>(
     rt: &R,
     gate: &G,
@@ -54,6 +54,7 @@ fn run<'a, R: Wait, G: Gate>(
     requires may { MayGoOn worker.old hand.old }
     ensures work { OnOk result (StaysAtWork worker.old hand.old worker.new hand.new) }
     ensures calm { OnOk result (is_calm worker.new.parts.phase ≡ true) }
+    ensures halts { OnErr result (hand.new.ticket_seat.mark ≡ true) }
     ensures orders { worker.new.ranked ≡ worker.old.ranked }
     ensures charges { worker.new.charges ≡ worker.old.charges }
 {
@@ -78,9 +79,20 @@ fn turn<'a, G: Gate>(gate: &G, worker: &mut Worker<'a>, hand: &mut RunningHand<'
     ensures orders { worker.new.ranked ≡ worker.old.ranked }
     ensures charges { worker.new.charges ≡ worker.old.charges }
 {
-    let turn = worker.step(hand);
+    let turn = step(worker, hand);
     if let (Turn::Drew, Some(path)) = (turn, worker.held()) {
         gate.pass(hand.number(), path);
     }
     turn
+}
+
+fn step<'a>(worker: &mut Worker<'a>, hand: &mut RunningHand<'a>) -> Turn
+    requires may { MayGoOn worker.old hand.old }
+    ensures may { MayGoOn worker.new hand.new }
+    ensures work { StaysAtWork worker.old hand.old worker.new hand.new }
+    ensures calm { result ≡ Turn.Stopped → is_calm worker.new.parts.phase ≡ true }
+    ensures orders { worker.new.ranked ≡ worker.old.ranked }
+    ensures charges { worker.new.charges ≡ worker.old.charges }
+{
+    worker.step(hand)
 }

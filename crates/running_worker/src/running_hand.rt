@@ -9,9 +9,9 @@ use mill_model::{Draw, Path, Standing};
 use order_symmetry::Ranked;
 use search_step::{Hand, WorkerEnd};
 use shared_words::{BestSeat, MeterSeat};
-use steal_deques::{Own, Thief};
 use std::marker::Model;
 use std::sync::atomic::Ordering;
+use steal_deques::{Own, Thief};
 
 /// The hand of a worker that runs beside others of a round.
 #[derive(Drop)]
@@ -108,7 +108,7 @@ impl<'a> RunningHand<'a> {
         self.number
     }
 
-    // The path that was taken last is closed or its worker has ended, and is open no more.
+    // The worker rests again: the path that it took last is open no more.
     fn settle(&mut self)
         ensures { self.new ≡ self.old }
     {

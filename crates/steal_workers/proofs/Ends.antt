@@ -1,12 +1,13 @@
 -- What the jobs of a round come to at their ends, job by job.
 use Rattle.std.proofs.Common.{◌≡◌, ℕ, zero, suc, ◌<◌, ◌≤◌, ◌+◌, ◌++◌, true, List, [], ◌∷◌, length, map}
 use Rattle.std.proofs.Common.{flat_map, get_or, option_to_list, refl, sym, ap, ap₂, ◌∙◌, subst, arith}
-use Rattle.std.proofs.Common.{All, Contains}
+use Rattle.std.proofs.Common.{All, Contains, IfOk, Ok, Result}
 use Rattle.std.proofs.lemmas.List.Elements.{All-contains, All-cons, All-head, All-nil, All-tail}
 use Rattle.std.specs.List.{AllByRecursion, AllZip}
 use Rattle.list_laws.specs.Sets.{times, same_list}
 use Rattle.mill_model.specs.Charges.{ChargeTable}
 use Rattle.mill_model.specs.declared.closing.Entry.{Entry}
+use Rattle.mill_model.specs.declared.memory.OutOfMemory.{OutOfMemory}
 use Rattle.mill_model.specs.declared.plan.Start.{Start}
 use Rattle.order_symmetry.specs.Ranked.{RankedOrders}
 use Rattle.search_step.specs.Honest.{IsHonest}
@@ -18,7 +19,7 @@ use Rattle.core_machine.specs.Counts.{own_count, split_count, sum_of, tickets_of
 use Rattle.core_machine.specs.Ends.{is_calm}
 use Rattle.core_machine.specs.Kept.{best_of, better_of}
 use Rattle.core_machine.proofs.Bests.{best-at-most-kept}
-use Rattle.steal_deques.specs.Deque.{DequeThief}
+use Rattle.steal_deques.specs.Deque.{DequeOwner, DequeThief}
 use Rattle.running_worker.specs.Jobs.{IsJobOf}
 use Rattle.running_worker.specs.Worked.{AreLeft, HasWorked, LosesAtMost, SameThieves, stolen_count}
 use Rattle.running_worker.specs.declared.job.Job.{Job}
@@ -32,6 +33,9 @@ use Rattle.steal_workers.specs.Seats.{AreSeatsOf, IsPublished}
 use Rattle.steal_workers.specs.Words.{IsOpened, tickets_below}
 use Rattle.steal_workers.specs.declared.seats.Seats.{Seats}
 
+abbrev pub ended : JobEnd → Result JobEnd OutOfMemory
+ended end = Ok end
+
 module _ (ranked : RankedOrders) (charges : ChargeTable) (round : Round) where
   abbrev pub Worked : List Job → List JobEnd → Type 0
   Worked = AllZip (HasWorked ranked charges round)
@@ -42,6 +46,19 @@ module _ (ranked : RankedOrders) (charges : ChargeTable) (round : Round) where
   workers_of [] (end ∷ ends) h = []
   workers_of (job ∷ jobs) [] h = []
   workers_of (job ∷ jobs) (end ∷ ends) h = h.0.parts ∷ workers_of jobs ends h.1
+
+  -- the ends of all jobs, from the results of the calls that ran them
+  pub all-worked : (jobs : List Job) (ends : List JobEnd) → length ends ≡ length jobs →
+      ((i : ℕ) (d : Job) (r : Result JobEnd OutOfMemory) → i < length jobs →
+      IfOk (get_or (map ended ends) i r) (HasWorked ranked charges round (get_or jobs i d))) →
+      Worked jobs ends
+  all-worked [] [] long h = tt
+  all-worked [] (end ∷ ends) long h = absurd (omega (arith, long))
+  all-worked (job ∷ jobs) [] long h = absurd (omega (arith, long))
+  all-worked (job ∷ jobs) (end ∷ ends) long h = (
+    h 0 job (Ok end) (omega arith),
+    all-worked jobs ends (omega (arith, long)) (λ i d r l. h (suc i) d r (omega (arith, l))),
+  )
 
   pub as-many : (jobs : List Job) (ends : List JobEnd) → Worked jobs ends →
       length ends ≡ length jobs
@@ -259,3 +276,14 @@ module _ (ranked : RankedOrders) (charges : ChargeTable) (round : Round) where
             ))
             ∙ ap (all_but i) (sym (owner-homes jobs ends h));
       }
+
+-- the owners' shares, where they are counted by the owners
+pub lent-again : (ends : List JobEnd) (owns : List DequeOwner) → owns ≡ end_owners ends →
+    All (IsLent (length ends)) (end_owners ends) → All (IsLent (length owns)) owns
+lent-again ends owns e lent =
+    subst (λ os. All (IsLent (length os)) os) (sym e)
+    (subst (λ n. All (IsLent n) (end_owners ends)) (sym (long ends)) lent)
+  where
+    long : (ends : List JobEnd) → length (end_owners ends) ≡ length ends
+    long [] = refl
+    long (end ∷ ends) = ap suc (long ends)

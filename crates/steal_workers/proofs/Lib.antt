@@ -2,5 +2,6 @@ pub mod Hands
 pub mod Deals
 pub mod Backs
 pub mod Seatings
+pub mod Begun
 pub mod Ends
-pub mod Round
+pub mod GoesOn

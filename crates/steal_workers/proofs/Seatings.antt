@@ -1,14 +1,16 @@
 -- What the seats of all workers know together.
 use Rattle.std.proofs.Common.{◌≡◌, ℕ, zero, suc, ◌<◌, ◌≤◌, ◌+◌, ◌⊎◌, Bool, List, [], ◌∷◌, ◌++◌, length}
 use Rattle.std.proofs.Common.{get_or, min, refl, sym, ap, ◌∙◌, subst, arith, All, Contains, count_by}
-use Rattle.std.proofs.Common.{cond, inl, inr, Some, append_assoc}
+use Rattle.std.proofs.Common.{cond, inl, inr, Some, nat_eq, nat_lt}
+use Rattle.std.proofs.lemmas.Bool.Decides.{nat_tests}
 use Rattle.std.proofs.lemmas.List.Elements.{All-cons, All-nil, All-pop, All-weaker}
 use Rattle.std.proofs.lemmas.List.Elements.{Contains-append_cases}
-use Rattle.std.proofs.lemmas.List.Sums.{sum_by-append}
+use Rattle.std.proofs.lemmas.List.Sums.{sum_by-append, sum_by-cons}
 use Rattle.core_machine.specs.Counts.{sum_of}
 use Rattle.shared_words.specs.Best.{LeastLoss}
-use Rattle.shared_words.specs.Meter.{TicketMeter}
+use Rattle.shared_words.specs.Meter.{AreNumbersBelow, TicketMeter}
 use Rattle.steal_workers.specs.Seats.{AreJoined, AreSeatsOf, IsPublished, both_seats}
+use Rattle.steal_workers.specs.Words.{IsClosed}
 use Rattle.steal_workers.specs.declared.seats.Seats.{Seats}
 
 -- published by a later one
@@ -62,3 +64,51 @@ pub starts-joined : (best : LeastLoss) (meter : TicketMeter) (all rest : List Se
     All (AreSeatsOf best meter) rest × AreSeatsOf best meter last
 starts-joined best meter all rest last is each =
     All-pop (AreSeatsOf best meter) all rest (Some last) is each
+
+-- Of the numbers below t, each once, as many are below a budget as the lesser of both.
+
+none-below : (numbers : List ℕ) → count_by (λ x. nat_lt x 0) numbers ≡ 0
+none-below [] = refl
+none-below (x ∷ xs) =
+    let one : ◌≡◌ {A = ℕ} (cond (nat_lt x 0) 1 0) 0 = grind (arith, nat_tests) in
+    omega (arith, sum_by-cons (λ y. cond (nat_lt y 0) 1 0) x xs, none-below xs, one)
+
+one-more-below : (n : ℕ) (numbers : List ℕ) →
+    count_by (λ x. nat_lt x (suc n)) numbers
+    ≡ count_by (λ x. nat_lt x n) numbers + count_by (nat_eq n) numbers
+one-more-below n [] = refl
+one-more-below n (x ∷ xs) =
+    let one : ◌≡◌ {A = ℕ} (cond (nat_lt x (suc n)) 1 0)
+    (cond (nat_lt x n) 1 0 + cond (nat_eq n x) 1 0) =
+    grind (arith, nat_tests) in
+    omega (
+      arith,
+      sum_by-cons (λ y. cond (nat_lt y (suc n)) 1 0) x xs,
+      sum_by-cons (λ y. cond (nat_lt y n) 1 0) x xs,
+      sum_by-cons (λ y. cond (nat_eq n y) 1 0) x xs,
+      one-more-below n xs,
+      one,
+    )
+
+count-below : (t : ℕ) (numbers : List ℕ) → AreNumbersBelow t numbers → (nodes : ℕ) →
+    count_by (λ x. nat_lt x nodes) numbers ≡ min t nodes
+count-below t numbers are zero = omega (arith, none-below numbers)
+count-below t numbers are (suc n) =
+    let once = are n in
+    let last : ◌≡◌ {A = ℕ} (min t n + cond (nat_lt n t) 1 0) (min t (suc n)) =
+    grind (arith, nat_tests) in
+    omega (arith, one-more-below n numbers, count-below t numbers are n, once, last)
+
+-- the words end
+pub closes : (start nodes : ℕ) (best : LeastLoss) (meter : TicketMeter) (all : List Seats)
+    (whole : Seats) (least drawn : ℕ) → AreJoined best meter all whole →
+    (least ≡ start) ⊎ Contains whole.loss.mine least → least ≤ whole.loss.seen →
+    AreNumbersBelow drawn whole.ticket.tickets → IsClosed start nodes all drawn
+closes start nodes best meter all whole least drawn joined from seen are = record {
+  least = least;
+  from = elim from [ inl e ↦ inl e | inr has ↦ inr (joined.published least has) ];
+  seen = All-weaker (λ (s : Seats). whole.loss.seen ≤ s.loss.seen)
+      (λ (s : Seats). least ≤ s.loss.seen) (λ s l. omega (arith, l, seen)) all joined.seen;
+  tickets = sym (joined.tickets (λ ticket. nat_lt ticket nodes))
+      ∙ count-below drawn whole.ticket.tickets are nodes;
+}

@@ -43,7 +43,11 @@ fn empty_hands(alloc: Global, workers: u16) -> Result<Vec<Vec<Thief>>, OutOfMemo
 }
 
 // Each worker but the owner, which has this number, gets a thief of the deque.
-fn lend_to_others(own: &mut Own, number: usize, hands: &mut Vec<Vec<Thief>>) -> Result<(), OutOfMemory>
+fn lend_to_others(
+    own: &mut Own,
+    number: usize,
+    hands: &mut Vec<Vec<Thief>>,
+) -> Result<(), OutOfMemory>
     requires unlent { IsUnlent (vec_len hands.old) own.old }
     requires number { number < vec_len hands.old }
     ensures lent { OnOk result (own.new ≡ record own.old { shares = 1 }) }

@@ -132,7 +132,7 @@ fn run_all<R: Threads + Wait + Sync, G: Gate>(
         requires { IsSync G.row
             × All (λ order. order.weight ≤ ranked.now.mill.largest) (orders_of ranked.now)
             × Reaches charges.now ranked.now.mill × IsJobOf ranked.now round.now job }
-        ensures { IfOk result (HasWorked ranked.now charges.now round.now job) }
+        ensures { IfOk result (HasWorked ranked.entry.now charges.entry.now round.entry.now job) }
     { work(rt, alloc, gate, ranked, charges, round, job) };
     let results = thread::map_vec(rt, jobs, &work_on)?;
     all_ends(alloc, results)

@@ -34,13 +34,13 @@ take_back-requires c =
 pub loop-taker-preserved : goal.loop-taker-preserved
 loop-taker-preserved c = elim c.if-taker-number.branch [
   | then-taker-number w ↦ rw w.own-is (rw w.hands-is
-    (back-next c.args.own.now c.loop-taker.own c.args.number c.loop-taker.taker
-    (hands_in c.args.hands.now.items) (hands_in c.loop-taker.hands.items) c.loop-taker.invariant
-    w.take_back.new.self (hands_in w.take_last.new.hands.items) w.take_last.result
-    (search (rules, hands-length c.args.hands.now.items)) (search rules) w.take_last.ensures.last w.take_last.ensures.others
-    w.take_back.ensures))
+      (back-next c.args.own.now c.loop-taker.own c.args.number c.loop-taker.taker
+      (hands_in c.args.hands.now.items) (hands_in c.loop-taker.hands.items) c.loop-taker.invariant
+      w.take_back.new.self (hands_in w.take_last.new.hands.items) w.take_last.result
+      (search (rules, hands-length c.args.hands.now.items)) (search rules) w.take_last.ensures.last w.take_last.ensures.others
+      w.take_back.ensures))
   | else-taker-number w ↦ rw w.own-is (rw w.hands-is
-    (back-owner c.args.own.now c.loop-taker.own c.args.number c.loop-taker.taker
-    (hands_in c.args.hands.now.items) (hands_in c.loop-taker.hands.items) c.loop-taker.invariant
-    (search rules)))
+      (back-owner c.args.own.now c.loop-taker.own c.args.number c.loop-taker.taker
+      (hands_in c.args.hands.now.items) (hands_in c.loop-taker.hands.items) c.loop-taker.invariant
+      (search rules)))
 ]

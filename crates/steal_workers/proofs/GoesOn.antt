@@ -2,9 +2,10 @@
 -- ends of its jobs and deques make a state at which workers may stop.
 use Rattle.std.proofs.Common.{◌≡◌, ℕ, ◌<◌, ◌≤◌, ◌+◌, ◌-◌, ◌^◌, ◌++◌, ◌⊎◌, inl, inr, true, false, min, List}
 use Rattle.std.proofs.Common.{[], ◌∷◌, length, map, flat_map, refl, sym, ap, ◌∙◌, subst, arith}
-use Rattle.std.proofs.Common.{append-nil}
+use Rattle.std.proofs.Common.{append-nil, suc}
 use Rattle.std.specs.List.{AllByRecursion}
 use Rattle.list_laws.specs.Sets.{times, same_list}
+use Rattle.list_laws.proofs.Among.{each-append, each-weaker}
 use Rattle.list_laws.proofs.Times.{times-append}
 use Rattle.mill_model.specs.Charges.{ChargeTable}
 use Rattle.mill_model.specs.Conserved.{joined}
@@ -14,7 +15,7 @@ use Rattle.order_symmetry.specs.Ranked.{RankedOrders}
 use Rattle.refute_log.specs.declared.piece.Run.{Run}
 use Rattle.search_step.specs.Honest.{IsHonest}
 use Rattle.search_step.specs.Parts.{Parts}
-use Rattle.search_step.specs.Promise.{records_of}
+use Rattle.search_step.specs.Promise.{EachSplitsAnew, SplitsEachAnew, records_of}
 use Rattle.search_step.specs.Resumable.{GoesOnFrom, IsResumable, start_of}
 use Rattle.search_step.specs.Steps.{task_at}
 use Rattle.core_machine.specs.Core.{Core, unclosed_by, unclosed_of}
@@ -34,7 +35,6 @@ use Rattle.steal_workers.specs.Words.{IsClosed, IsOpened}
 use Rattle.steal_workers.proofs.Ends.{Worked, all-fit, all-know, all-paths, all-tickets, as-many}
 use Rattle.steal_workers.proofs.Ends.{bests-left, each-worker, paths-left, pieces-left}
 use Rattle.steal_workers.proofs.Ends.{published-kept, workers-count, workers_of}
-use Rattle.list_laws.proofs.Among.{each-weaker}
 
 module _ (ranked : RankedOrders) (charges : ChargeTable) (workers budget : ℕ) (given : Run)
     (some : 1 ≤ workers) (limit : budget ≤ MAX_NODES) (within : given.drawn ≤ budget)
@@ -161,3 +161,12 @@ module _ (ranked : RankedOrders) (charges : ChargeTable) (workers budget : ℕ) 
 
   pub round-at-most : run.loss ≤ given.loss
   round-at-most = run-at-most ranked charges budget given resumable state stops run left
+
+-- each piece of a run that went on from another splits its paths anew, where those of that one did
+pub anew-too : (ranked : RankedOrders) (charges : ChargeTable) (given run : Run) →
+    GoesOnFrom ranked charges given run → EachSplitsAnew ranked charges (records_of given) →
+    EachSplitsAnew ranked charges (records_of run)
+anew-too ranked charges given run goes_on anew =
+    subst (EachSplitsAnew ranked charges) (sym goes_on.pieces)
+    (each-append (SplitsEachAnew ranked charges) (records_of given) goes_on.more anew
+    goes_on.anew)

@@ -46,7 +46,9 @@ fn replayed(
     };
     let machine = Machine::left_by(alloc, setting, limits, start.loss, schedule)?;
     let Setting {
-        ranked, charges, ..
+        ranked,
+        charges,
+        ..
     } = setting;
     let run = replay(alloc, ranked, charges, start, limits, schedule)?;
     let as_the_machine = machine.is_some_and(|machine| machine.is_seen_in(&run));

@@ -45,7 +45,9 @@ fn seen<R: Threads + Wait + Sync>(
         workers: 4,
     };
     let Setting {
-        ranked, charges, ..
+        ranked,
+        charges,
+        ..
     } = setting;
     let run = run_workers(rt, alloc, ranked, charges, start, limits, &OpenGate)?;
     let told = paths_of(alloc, &run)?;
@@ -182,8 +184,16 @@ fn a_whole_run_refutes_each_lesser_loss(rt: HostRuntime) -> Result<(), Fail> {
         let Some(seen) = seen(&rt, alloc, &setting, 1_000_000)? else {
             panic!(rt; "there is a plan to start from");
         };
-        assert_eq!(rt; (Some(seen.loss), seen.of_plan), (least, least), "turn {turn}");
-        assert_eq!(rt; (seen.is_conserved, seen.refutes), (true, Some(true)), "turn {turn}");
+        assert_eq!(rt;
+            (Some(seen.loss), seen.of_plan),
+            (least, least),
+            "turn {turn}"
+        );
+        assert_eq!(rt;
+            (seen.is_conserved, seen.refutes),
+            (true, Some(true)),
+            "turn {turn}"
+        );
     }
     Ok(())
 }

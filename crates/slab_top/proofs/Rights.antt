@@ -21,7 +21,8 @@ use Rattle.slab_top.specs.Input.{whole_input, ReadsWhole}
 use Rattle.slab_top.specs.Served.{Serves, IsAnswer, IsServed, Output, WrongWords, Answered, IsRight}
 use Rattle.slab_top.specs.Agree.{AgreeOnOutcomes, Agree}
 use Rattle.slab_top.specs.Run.{HasEnough, IsAbout, IsEnoughFor, IsToBeRead}
-use Rattle.slab_top.proofs.Limit.{as-read, reads-all, reads-nothing, refuses-long}
+use Rattle.slab_top.proofs.Limit.{as-read, is-within, not-whole, reads-all, reads-nothing}
+use Rattle.slab_top.proofs.Limit.{refuses-long}
 use Rattle.slab_top.proofs.Stages.{whole-decided}
 use Rattle.slab_top.proofs.Replying.{replies-agree, replies-otherwise}
 use Rattle.slab_top.proofs.Replying.{HandsOutRun, replies-hand-out}
@@ -96,6 +97,14 @@ served-long job limit (Some told) limited more = record {
   answer = inl (TooLong limit, refl, refuses-long job told limit limited more);
 }
 
+-- and then it isn't to be read whole
+pub long-not-whole : (job : Job) (limit : ℕ) (left : Option (List ℕ)) (Ended : Type 0) →
+    limit_of job.command ≡ Some limit → HasMoreThan limit left →
+    IfSome left (λ input. ReadsWhole (limit_of job.command) input → Ended)
+long-not-whole job limit None Ended limited more = tt
+long-not-whole job limit (Some told) Ended limited more =
+    λ whole. absurd (omega (arith, more, is-within job told limit limited whole))
+
 -- nothing is read, whatever is to come
 pub served-unread : (job : Job) (left : Option (List ℕ)) (outcome : Outcome) →
     limit_of job.command ≡ None → Serves job.command job [] outcome → IsServed job left outcome
@@ -109,6 +118,13 @@ served-unread job (Some told) outcome unlimited serves = record {
   given = refl;
   answer = inr ([], reads-nothing job told unlimited, serves);
 }
+
+pub unread-not-whole : (job : Job) (left : Option (List ℕ)) (Ended : Type 0) →
+    limit_of job.command ≡ None →
+    IfSome left (λ input. ReadsWhole (limit_of job.command) input → Ended)
+unread-not-whole job None Ended unlimited = tt
+unread-not-whole job (Some told) Ended unlimited =
+    λ whole. absurd (not-whole job told unlimited whole)
 
 -- two outcomes for the same told bytes
 served-agree : (job : Job) (left : Option (List ℕ)) (own other : Outcome) → IsSome left →

@@ -36,9 +36,10 @@ fn ending_of(solution: Solution) -> Ending
     requires { (ending : Ending) × IsEndingOf solution.answer solution.run ending }
     ensures { IsEndingOf solution.answer solution.run result }
 {
-    match solution.answer {
+    let Solution { answer, run } = solution;
+    match answer {
         Answer::Optimal { loss, .. } => Ending::Optimal { loss },
-        Answer::Feasible { loss, spent, .. } => match solution.run {
+        Answer::Feasible { loss, spent, .. } => match run {
             Some(run) => Ending::Feasible { loss, spent, run },
             None => unreachable!(),
         },

@@ -1,5 +1,5 @@
-//! Serves words: reads what they ask to be read, has it answered by a searcher, and writes the answer
-//! out. What `run` and `run_plain` promise is proved here, for each searcher.
+//! Serves words: reads what they ask to be read, has it answered by a searcher, and writes the
+//! answer out. What `run` and `run_plain` promise is proved here, for each searcher.
 ghost use Rattle.std.specs.Prelude.{◌≡◌, ◌≢◌, ◌++◌, ℕ, true, List, Err, None, IfOk};
 ghost use Rattle.std.specs.Prelude.{IfSome, IsErrOf, IsSome, OnOk};
 ghost use Rattle.std.specs.Io.KnownBytes.{Appends, IsAtEnd};
@@ -25,9 +25,7 @@ use crate::searcher::Searcher;
 use job_words::{Job, read_words, write_usage};
 use mill_io::{ReadError, Sink, Source, read_all};
 use refute_log::Run;
-use reply_text::{
-    OUT_OF_MEMORY, Outcome, READ_FAULT, Refusal, Stop, WRITE_FAULT, WRONG_WORDS,
-};
+use reply_text::{OUT_OF_MEMORY, Outcome, READ_FAULT, Refusal, Stop, WRITE_FAULT, WRONG_WORDS};
 use std::alloc::Global;
 
 // Why there is no outcome.
@@ -124,8 +122,8 @@ fn run_behind(outcome: Outcome, status: u8) -> Option<Run>
     }
 }
 
-/// Serves what the words ask for, gives the status that the program ends with, and hands out the run
-/// behind a feasible answer in `kept`. `run` says what the clauses mean.
+/// Serves what the words ask for, gives the status that the program ends with, and hands out the
+/// run behind a feasible answer in `kept`. `run` says what the clauses mean.
 pub fn serve_words<V: Searcher, S: Source, K: Sink>(
     searcher: &V,
     alloc: Global,

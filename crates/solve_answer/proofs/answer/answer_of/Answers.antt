@@ -70,9 +70,9 @@ returns-clause-log c =
     let log = c.in_ok-log.log in
     let none : length run.unclosed.items ≡ 0 = search rules in
     let asked : c.args.with_log ≡ true = search rules in
-    λ course has. rw (asked, c.optimal-2.ensures) (log-refutes c.args.limits course c.args.instance.now run has
-    (none-by-length run.unclosed.items none) log.entries c.in_ok-log.ensures.records
-    c.in_ok-log.ensures.complete c.in_ok-log.ensures.named)
+    λ course has. rw (asked, c.optimal-2.ensures) (log-refutes c.args.limits course
+    c.args.instance.now run has (none-by-length run.unclosed.items none) log.entries
+    c.in_ok-log.ensures.records c.in_ok-log.ensures.complete c.in_ok-log.ensures.named)
 
 pub returns-clause-told : goal.returns-clause-told
 returns-clause-told c =

@@ -1,8 +1,7 @@
 -- The thieves of a deque go back to its owner, one worker after another.
-use Rattle.std.proofs.Common.{◌≡◌, ◌≢◌, ℕ, zero, suc, ◌<◌, ◌≤◌, ◌+◌, ◌⊎◌, inl, inr, List, [], ◌∷◌}
+use Rattle.std.proofs.Common.{◌≡◌, ◌≢◌, ℕ, zero, suc, ◌<◌, ◌+◌, ◌⊎◌, inl, inr, List, [], ◌∷◌}
 use Rattle.std.proofs.Common.{◌++◌, length, set, map, refl, sym, ap, ◌∙◌, subst, arith, All}
-use Rattle.std.proofs.Common.{length-append, sum_by, cond}
-use Rattle.std.proofs.lemmas.Bool.Decides.{nat_tests}
+use Rattle.std.proofs.Common.{length-append, length-set, sum_by, cond}
 use Rattle.std.proofs.lemmas.List.Sums.{sum_by-cons}
 use Rattle.std.proofs.lemmas.List.Elements.{All-pop}
 use Rattle.std.proofs.Common.{Some}
@@ -12,12 +11,11 @@ use Rattle.steal_deques.specs.Deque.{Balances, DequeOwner, DequeThief}
 use Rattle.steal_workers.specs.Deques.{AreBack, AreOfAll, EndsOne, GivesOne, Hands, Home}
 use Rattle.steal_workers.specs.Deques.{IsLastOfAll, IsLent}
 use Rattle.steal_workers.specs.Deques.{all_but, all_popped, all_pushed, all_stolen, hand_of}
-use Rattle.steal_workers.specs.Deques.{home_of, homes_of, others_below}
-use Rattle.core_machine.specs.Counts.{sum_of}
+use Rattle.steal_workers.specs.Deques.{home_of, homes_of}
 use Rattle.running_worker.specs.Worked.{stolen_count}
-use Rattle.steal_workers.proofs.Hands.{hand-else, hand-set, hands-count}
-use Rattle.steal_workers.proofs.Deals.{all-but-beyond, all-but-last, all-but-more, map-long}
-use Rattle.steal_workers.proofs.Deals.{map-snoc, others-more, others-same, same-or-other}
+use Rattle.core_machine.proofs.Lists.{get-other, map-length, sum-append, sum-set}
+use Rattle.steal_workers.proofs.Deals.{all-but-beyond, all-but-last, all-but-more, map-snoc}
+use Rattle.steal_workers.proofs.Deals.{others-more, others-same, same-or-other}
 
 -- Lists that end with one thing.
 
@@ -47,20 +45,6 @@ pub some-last : (hand : List DequeThief) (homes : List Home) (home : Home) →
 some-last [] homes home e =
     absurd (omega (arith, ap length e, length-append homes (home ∷ [])))
 some-last (t ∷ hand) homes home e = omega arith
-
--- Sums over hands.
-
-sum-snoc : (x : List ℕ) (hand : List DequeThief) (thief : DequeThief) →
-    stolen_count x (hand ++ thief ∷ []) ≡ stolen_count x hand + times same_list x thief.stolen
-sum-snoc x [] thief = omega arith
-sum-snoc x (t ∷ hand) thief = omega (arith, sum-snoc x hand thief)
-
-sum-hand : (x : List ℕ) (hands : Hands) (i : ℕ) (new : List DequeThief) → i < length hands →
-    all_stolen x (set hands i new) + stolen_count x (hand_of hands i)
-    ≡ all_stolen x hands + stolen_count x new
-sum-hand x [] i new l = absurd (omega arith)
-sum-hand x (h ∷ hands) zero new l = omega arith
-sum-hand x (h ∷ hands) (suc i) new l = omega (arith, sum-hand x hands i new (omega arith))
 
 -- the next worker gives its last thief back, or is the owner
 module _ (own0 own1 : DequeOwner) (number t : ℕ) (before now : Hands)
@@ -96,23 +80,24 @@ module _ (own0 own1 : DequeOwner) (number t : ℕ) (before now : Hands)
       others-more number t n,
     );
     given = record {
-      count = ap length others ∙ hands-count now t (hand_of next t) ∙ so.given.count;
+      count = ap length others ∙ length-set now t (hand_of next t) ∙ so.given.count;
       others = given;
       later = λ i m.
           ap (λ h. hand_of h i) others
-          ∙ hand-else now t i (hand_of next t) (λ q. absurd (omega (arith, q, m)))
+          ∙ get-other now t i (hand_of next t) [] (λ q. absurd (omega (arith, q, m)))
           ∙ so.given.later i (omega (arith, m));
       own = ap (λ h. hand_of h number) others
-          ∙ hand-else now t number (hand_of next t) (λ q. n (sym q)) ∙ so.given.own;
+          ∙ get-other now t number (hand_of next t) [] (λ q. n (sym q)) ∙ so.given.own;
     };
     stolen = λ x. omega (
       arith,
       ap (λ (o : DequeOwner). times same_list x o.stolen) e,
       times-append same_list x own1.stolen thief.stolen,
       ap (all_stolen x) others,
-      sum-hand x now t (hand_of next t) (omega (arith, l, so.given.count)),
+      sum-set (stolen_count x) now t (hand_of next t) [] (omega (arith, l, so.given.count)),
       ap (stolen_count x) last,
-      sum-snoc x (hand_of next t) thief,
+      sum-append (λ (other : DequeThief). times same_list x other.stolen) (hand_of next t)
+          (thief ∷ []),
       so.stolen x,
     );
   }
@@ -129,7 +114,7 @@ module _ (own0 own1 : DequeOwner) (number t : ℕ) (before now : Hands)
           (so.given.others i b k).1
               ∙ ap (λ h. h ++ (so.given.others i b k).0 ∷ [])
               (sym (ap (λ h. hand_of h i) others
-              ∙ hand-else now t i (hand_of next t) (λ q. absurd (omega (arith, q, b))))),
+              ∙ get-other now t i (hand_of next t) [] (λ q. absurd (omega (arith, q, b))))),
         )
       ]
 
@@ -156,23 +141,6 @@ module _ (own0 own1 : DequeOwner) (number t : ℕ) (before now : Hands)
       let last = lasts.others t l n in
       (last.0, ap homes_of (so.given.later t (omega arith)) ∙ last.1)
 
-pub back-none : (own : DequeOwner) (number : ℕ) (hands : Hands) → own.shares ≡ 1 →
-    own.stolen ≡ [] → AreBack own own number 0 hands hands
-back-none own number hands shares stolen = record {
-  same = refl;
-  shares = omega (arith, shares, none number);
-  given = record {
-    count = refl;
-    others = λ i m k. absurd (omega (arith, m));
-    later = λ i m. refl;
-    own = refl;
-  };
-  stolen = λ x. omega (arith, ap (times same_list x) stolen);
-}
-  where
-    none : (number : ℕ) → others_below number 0 ≡ 0
-    none number = grind (arith, nat_tests)
-
 -- Without the last deque each worker has a thief of every deque but its own.
 module _ (owns : List DequeOwner) (own : DequeOwner) (before : Hands)
     (has : AreOfAll (owns ++ own ∷ []) before) where
@@ -183,7 +151,7 @@ module _ (owns : List DequeOwner) (own : DequeOwner) (before : Hands)
       homes_of (hand_of before i) ≡ all_but i (map home_of owns) ++ home_of own ∷ []
   other-home i l n =
       has i l ∙ ap (all_but i) homes-there
-      ∙ all-but-more (map home_of owns) (home_of own) i (λ q. n (q ∙ map-long home_of owns))
+      ∙ all-but-more (map home_of owns) (home_of own) i (λ q. n (q ∙ map-length home_of owns))
 
   pub last-of-all : IsLastOfAll (length owns) own before
   last-of-all = record { others = λ i l n. (all_but i (map home_of owns), other-home i l n) }
@@ -195,9 +163,9 @@ module _ (owns : List DequeOwner) (own : DequeOwner) (before : Hands)
         ap homes_of gives.own ∙ has (length owns) (omega (arith, ap (λ n. n) e, m, gives.count))
         ∙ ap (all_but (length owns)) homes-there
         ∙ subst (λ n. all_but n (map home_of owns ++ home_of own ∷ []) ≡ map home_of owns)
-        (map-long home_of owns) (all-but-last (map home_of owns) (home_of own))
+        (map-length home_of owns) (all-but-last (map home_of owns) (home_of own))
         ∙ sym (all-but-beyond (map home_of owns) (length owns)
-        (omega (arith, map-long home_of owns))))
+        (omega (arith, map-length home_of owns))))
     | inr n ↦ (let l : i < length before = omega (arith, m, gives.count) in
         let given = gives.others i l n in
         (last-home (hand_of before i) (hand_of after i) given.0 (all_but i (map home_of owns))
@@ -221,16 +189,6 @@ none-stolen x (h ∷ hands) has =
     none : (i : ℕ) → all_but {X = Home} (suc i) [] ≡ all_but i []
     none zero = refl
     none (suc i) = refl
-
-pub pushed-more : (x : List ℕ) (owns : List DequeOwner) (own : DequeOwner) →
-    all_pushed x (owns ++ own ∷ []) ≡ all_pushed x owns + times same_list x own.pushed
-pushed-more x [] own = omega arith
-pushed-more x (o ∷ owns) own = omega (arith, pushed-more x owns own)
-
-pub popped-more : (x : List ℕ) (owns : List DequeOwner) (own : DequeOwner) →
-    all_popped x (owns ++ own ∷ []) ≡ all_popped x owns + times same_list x own.popped
-popped-more x [] own = omega arith
-popped-more x (o ∷ owns) own = omega (arith, popped-more x owns own)
 
 -- where a path weighs one and any other nothing, the weight of paths is how often it stands there
 times-weighs : (x : List ℕ) (paths : List (List ℕ)) →
@@ -309,8 +267,8 @@ module _ (owns rest : List DequeOwner) (own : DequeOwner) (before : Hands) (n : 
         ends.paths x,
         ap (all_popped x) is,
         ap (all_pushed x) is,
-        popped-more x rest own,
-        pushed-more x rest own,
+        sum-append (λ (o : DequeOwner). times same_list x o.popped) rest (own ∷ []),
+        sum-append (λ (o : DequeOwner). times same_list x o.pushed) rest (own ∷ []),
       )
 
 pub none-left : (owns : List DequeOwner) (hands : Hands) (x : List ℕ) → length owns ≡ 0 →

@@ -1,5 +1,6 @@
 -- What a round begins with: from new deques, of which the first has got some paths, and new seats.
-use Rattle.std.proofs.Common.{◌≡◌, ℕ, zero, suc, ◌<◌, ◌≤◌, ◌+◌, ◌++◌, List, [], ◌∷◌, length, map, get_or}
+use Rattle.std.proofs.Common.{◌≡◌, ℕ, zero, suc, ◌<◌, ◌≤◌, ◌+◌, ◌++◌, List, [], ◌∷◌, length, map}
+use Rattle.std.proofs.Common.{get_or}
 use Rattle.std.proofs.Common.{refl, sym, ap, ◌∙◌, subst, arith, All, length-append}
 use Rattle.std.proofs.lemmas.List.Elements.{All-cons, All-head, All-push, All-same}
 use Rattle.std.proofs.lemmas.List.Elements.{All-tail, All-weaker}
@@ -16,7 +17,7 @@ use Rattle.running_worker.specs.declared.round.Round.{Round}
 use Rattle.steal_workers.specs.Deques.{AreDealt, IsLent, IsNewOwner, all_but, all_pushed, hand_of}
 use Rattle.steal_workers.specs.Deques.{hands_in, home_of, homes_of, new_thief}
 use Rattle.steal_workers.specs.Rounds.{Begins, job_hands, job_owners, job_seats, with_first}
-use Rattle.steal_workers.specs.Seats.{AreNew, AreSeatsOf, new_loss_seat, new_ticket_seat}
+use Rattle.steal_workers.specs.Seats.{AreNew, AreSeatsOf}
 use Rattle.steal_workers.specs.Words.{IsOpened}
 use Rattle.steal_workers.specs.declared.lending.Dealt.{Dealt}
 use Rattle.steal_workers.specs.declared.seats.Seats.{Seats}
@@ -254,9 +255,9 @@ mapped-more {X = X} f xs xs' x ys rest all e so first =
     go (y ∷ xs) = ap (λ l. f y ∷ l) (go xs)
 
 -- its number is below their number
-pub number-fits : (number : ℕ) (jobs : List Job) (own : DequeOwner) (owns rest all : List DequeOwner) →
-    number ≡ length jobs → job_owners jobs ++ owns ≡ all → owns ≡ own ∷ rest →
-    number < length all
+pub number-fits : (number : ℕ) (jobs : List Job) (own : DequeOwner)
+    (owns rest all : List DequeOwner) → number ≡ length jobs → job_owners jobs ++ owns ≡ all →
+    owns ≡ own ∷ rest → number < length all
 number-fits number jobs own owns rest all e so first =
     omega (
       arith,

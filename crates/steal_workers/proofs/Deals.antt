@@ -1,17 +1,16 @@
--- A deque's thieves are dealt out, one worker after another.
-use Rattle.std.proofs.Common.{◌≡◌, ◌≢◌, ℕ, zero, suc, ◌<◌, ◌≤◌, ◌+◌, ◌-◌, ◌⊎◌, inl, inr, cond, ltb}
-use Rattle.std.proofs.Common.{List, [], ◌∷◌, ◌++◌, length, set, map, replicate, refl, sym, ap, ◌∙◌}
-use Rattle.std.proofs.Common.{subst, arith, length-append, All}
+-- What each worker has once a further deque's thieves are dealt out.
+use Rattle.std.proofs.Common.{◌≡◌, ◌≢◌, ℕ, zero, suc, ◌<◌, ◌≤◌, ◌+◌, ◌⊎◌, inl, inr}
+use Rattle.std.proofs.Common.{List, [], ◌∷◌, ◌++◌, length, map, refl, sym, ap, ◌∙◌}
+use Rattle.std.proofs.Common.{subst, arith, All}
 use Rattle.std.proofs.lemmas.Bool.Decides.{nat_tests}
 use Rattle.std.proofs.lemmas.List.Elements.{All-push, All-same}
 use Rattle.order_symmetry.specs.Ranked.{RankedOrders}
-use Rattle.steal_deques.specs.Deque.{DequeOwner, DequeThief}
-use Rattle.steal_workers.specs.Deques.{DealsOne, Hands, HasNewThieves, IsNewOwner, all_but, hand_of}
+use Rattle.core_machine.proofs.Lists.{map-length}
+use Rattle.steal_deques.specs.Deque.{DequeOwner}
+use Rattle.steal_workers.specs.Deques.{DealsOne, Hands, HasNewThieves, IsNewOwner, all_but}
 use Rattle.steal_workers.specs.Deques.{new_thief, others_below}
-use Rattle.steal_workers.proofs.Hands.{hand-else, hand-set, hands-count}
 
 -- how many others there are
-
 pub others-more : (number t : ℕ) → t ≢ number →
     others_below number (t + 1) ≡ others_below number t + 1
 others-more number t n = grind (arith, nat_tests)
@@ -19,69 +18,6 @@ others-more number t n = grind (arith, nat_tests)
 pub others-same : (number t : ℕ) → t ≡ number →
     others_below number (t + 1) ≡ others_below number t
 others-same number t e = grind (arith, nat_tests)
-
-pub others-few : (number t : ℕ) → others_below number t ≤ t
-others-few number t = grind (arith, nat_tests)
-
-pub others-all : (number n : ℕ) → number < n → others_below number n + 1 ≡ n
-others-all number n l = grind (arith, nat_tests)
-
--- a thief as it is lent
-
-pub is-new : (own : DequeOwner) (thief : DequeThief) → thief.deque ≡ own.deque →
-    thief.ranked ≡ own.ranked → thief.stolen ≡ [] → thief.passed ≡ 0 → thief ≡ new_thief own
-is-new own thief d r s p =
-    λ i. record { deque = d i; ranked = r i; stolen = s i; passed = p i }
-
--- the next worker gets a thief, or is the owner
-module _ (number t : ℕ) (thief : DequeThief) (before now : Hands)
-    (so : DealsOne number t thief before now) where
-  pub deals-next : t < length before → t ≢ number → (next : Hands) →
-      next ≡ set now t (hand_of now t ++ thief ∷ []) →
-      DealsOne number (t + 1) thief before next
-  deals-next l n next e =
-      subst (DealsOne number (t + 1) thief before) (sym e)
-      (record {
-        count = hands-count now t (hand_of now t ++ thief ∷ []) ∙ so.count;
-        others = others;
-        later = λ i m.
-            hand-else now t i (hand_of now t ++ thief ∷ []) (λ q. absurd (omega (arith, q, m)))
-            ∙ so.later i (omega (arith, m));
-        own = hand-else now t number (hand_of now t ++ thief ∷ []) (λ q. n (sym q)) ∙ so.own;
-      })
-    where
-      last-or-before : (i : ℕ) → i < t + 1 → (i ≡ t) ⊎ (i < t)
-      last-or-before i m = grind arith
-
-      others : (i : ℕ) → i < t + 1 → i ≢ number →
-          hand_of (set now t (hand_of now t ++ thief ∷ [])) i ≡ hand_of before i ++ thief ∷ []
-      others i m k = elim (last-or-before i m) [
-        | inl q ↦ rw q
-            (hand-set now t (hand_of now t ++ thief ∷ []) (omega (arith, l, so.count))
-            ∙ ap (λ h. h ++ thief ∷ []) (so.later t (omega arith)))
-        | inr b ↦ hand-else now t i (hand_of now t ++ thief ∷ [])
-            (λ q. absurd (omega (arith, q, b))) ∙ so.others i b k
-      ]
-
-  pub deals-owner : t ≡ number → DealsOne number (t + 1) thief before now
-  deals-owner e = record {
-    count = so.count;
-    others = λ i m k. so.others i (less i m (λ q. k (q ∙ e))) k;
-    later = λ i m. so.later i (omega (arith, m));
-    own = so.own;
-  }
-    where
-      less : (i : ℕ) → i < t + 1 → i ≢ t → i < t
-      less i m k = grind arith
-
-pub deals-none : (number : ℕ) (thief : DequeThief) (hands : Hands) →
-    DealsOne number 0 thief hands hands
-deals-none number thief hands = record {
-  count = refl;
-  others = λ i m k. absurd (omega (arith, m));
-  later = λ i m. refl;
-  own = refl;
-}
 
 -- Leaving out one place of a list that goes on by one.
 
@@ -107,10 +43,6 @@ pub map-snoc : {X Y : Type 0} (f : X → Y) (xs : List X) (x : X) →
 map-snoc f [] x = refl
 map-snoc f (y ∷ xs) x = ap (λ l. f y ∷ l) (map-snoc f xs x)
 
-pub map-long : {X Y : Type 0} (f : X → Y) (xs : List X) → length (map f xs) ≡ length xs
-map-long f [] = refl
-map-long f (x ∷ xs) = ap suc (map-long f xs)
-
 pub same-or-other : (i n : ℕ) → (i ≡ n) ⊎ (i ≢ n)
 same-or-other zero zero = inl refl
 same-or-other zero (suc n) = inr (λ e. absurd (omega (arith, e)))
@@ -130,15 +62,16 @@ has-one-more owns own before after l has deals i m =
       | inl e ↦ rw e (
           deals.own ∙ has (length owns) l
           ∙ all-but-beyond (map new_thief owns) (length owns)
-          (omega (arith, map-long new_thief owns))
-          ∙ sym (subst (λ n. all_but n (map new_thief owns ++ new_thief own ∷ []) ≡ map new_thief owns)
-          (map-long new_thief owns) (all-but-last (map new_thief owns) (new_thief own)))
+          (omega (arith, map-length new_thief owns))
+          ∙ sym (subst
+          (λ n. all_but n (map new_thief owns ++ new_thief own ∷ []) ≡ map new_thief owns)
+          (map-length new_thief owns) (all-but-last (map new_thief owns) (new_thief own)))
           ∙ ap (all_but (length owns)) (sym (map-snoc new_thief owns own)))
       | inr n ↦
           deals.others i (omega (arith, m, deals.count)) n
           ∙ ap (λ h. h ++ new_thief own ∷ []) (has i (omega (arith, m, deals.count)))
           ∙ sym (all-but-more (map new_thief owns) (new_thief own) i
-          (λ q. n (q ∙ map-long new_thief owns)))
+          (λ q. n (q ∙ map-length new_thief owns)))
           ∙ ap (all_but i) (sym (map-snoc new_thief owns own))
     ]
 
@@ -175,9 +108,3 @@ module _ (owns : List DequeOwner) (own own' : DequeOwner) (ranked : RankedOrders
   all-new owns' e all new =
       All-same (IsNewOwner ranked workers) owns' (owns ++ own' ∷ []) e
       (All-push (IsNewOwner ranked workers) owns own' all new)
-
--- before any deque is dealt
-pub has-none : (n i : ℕ) → hand_of (replicate n []) i ≡ []
-has-none zero i = refl
-has-none (suc n) zero = refl
-has-none (suc n) (suc i) = has-none n i

@@ -1,35 +1,34 @@
 -- What the jobs of a round come to at their ends, job by job.
-use Rattle.std.proofs.Common.{◌≡◌, ℕ, zero, suc, ◌<◌, ◌≤◌, ◌+◌, ◌++◌, true, List, [], ◌∷◌, length, map}
-use Rattle.std.proofs.Common.{flat_map, get_or, option_to_list, refl, sym, ap, ap₂, ◌∙◌, subst, arith}
+use Rattle.std.proofs.Common.{◌≡◌, ℕ, zero, suc, ◌<◌, ◌≤◌, ◌+◌, ◌++◌, List, [], ◌∷◌, length}
+use Rattle.std.proofs.Common.{map}
+use Rattle.std.proofs.Common.{flat_map, get_or, option_to_list, refl, sym, ap, ap₂, ◌∙◌, subst}
+use Rattle.std.proofs.Common.{arith}
 use Rattle.std.proofs.Common.{All, Contains, IfOk, Ok, Result}
-use Rattle.std.proofs.lemmas.List.Elements.{All-contains, All-cons, All-head, All-nil, All-tail}
+use Rattle.std.proofs.lemmas.List.Elements.{All-contains, All-cons, All-head, All-tail}
 use Rattle.std.specs.List.{AllByRecursion, AllZip}
-use Rattle.list_laws.specs.Sets.{times, same_list}
 use Rattle.mill_model.specs.Charges.{ChargeTable}
 use Rattle.mill_model.specs.declared.closing.Entry.{Entry}
 use Rattle.mill_model.specs.declared.memory.OutOfMemory.{OutOfMemory}
 use Rattle.mill_model.specs.declared.plan.Start.{Start}
 use Rattle.order_symmetry.specs.Ranked.{RankedOrders}
-use Rattle.search_step.specs.Honest.{IsHonest}
 use Rattle.search_step.specs.Parts.{Parts}
 use Rattle.search_step.specs.Promise.{AllFit}
 use Rattle.search_step.specs.Steps.{task_at}
-use Rattle.core_machine.specs.Core.{no_worker, unclosed_by}
+use Rattle.core_machine.specs.Core.{unclosed_by}
 use Rattle.core_machine.specs.Counts.{own_count, split_count, sum_of, tickets_of}
-use Rattle.core_machine.specs.Ends.{is_calm}
 use Rattle.core_machine.specs.Kept.{best_of, better_of}
 use Rattle.core_machine.proofs.Bests.{best-at-most-kept}
+use Rattle.core_machine.proofs.Lists.{map-length}
 use Rattle.steal_deques.specs.Deque.{DequeOwner, DequeThief}
-use Rattle.running_worker.specs.Jobs.{IsJobOf}
-use Rattle.running_worker.specs.Worked.{AreLeft, HasWorked, LosesAtMost, SameThieves, stolen_count}
+use Rattle.running_worker.specs.Worked.{HasWorked, LosesAtMost, SameThieves}
 use Rattle.running_worker.specs.declared.job.Job.{Job}
 use Rattle.running_worker.specs.declared.job.JobEnd.{JobEnd}
 use Rattle.running_worker.specs.declared.round.Round.{Round}
-use Rattle.steal_workers.specs.Deques.{AreOfAll, IsLent, all_but, all_popped, all_pushed}
+use Rattle.steal_workers.specs.Deques.{IsLent, all_but, all_popped, all_pushed}
 use Rattle.steal_workers.specs.Deques.{all_stolen, hand_of, home_of, homes_of}
 use Rattle.steal_workers.specs.Rounds.{Begins, MayEnd, best_left, end_hands, end_owners, end_seats}
 use Rattle.steal_workers.specs.Rounds.{job_hands, job_owners, job_seats, path_left, work_left}
-use Rattle.steal_workers.specs.Seats.{AreSeatsOf, IsPublished}
+use Rattle.steal_workers.specs.Seats.{AreSeatsOf}
 use Rattle.steal_workers.specs.Words.{IsOpened, tickets_below}
 use Rattle.steal_workers.specs.declared.seats.Seats.{Seats}
 
@@ -248,10 +247,6 @@ module _ (ranked : RankedOrders) (charges : ChargeTable) (round : Round) where
       thief-homes job.thieves.items end.thieves.items h.0.ends.thieves
   hand-homes (job ∷ jobs) (end ∷ ends) h (suc i) = hand-homes jobs ends h.1 i
 
-  map-long : {X Y : Type 0} (f : X → Y) (xs : List X) → length (map f xs) ≡ length xs
-  map-long f [] = refl
-  map-long f (x ∷ xs) = ap suc (map-long f xs)
-
   -- so the round may end
   pub may-end : (workers loss nodes : ℕ) (paths : List (List ℕ)) (jobs : List Job)
       (ends : List JobEnd) → 1 ≤ workers → IsOpened workers loss nodes round →
@@ -269,8 +264,8 @@ module _ (ranked : RankedOrders) (charges : ChargeTable) (round : Round) where
             ∙ begins.thieves i (omega (
               arith,
               l,
-              map-long (λ (end : JobEnd). end.thieves.items) ends,
-              map-long (λ (job : Job). job.thieves.items) jobs,
+              map-length (λ (end : JobEnd). end.thieves.items) ends,
+              map-length (λ (job : Job). job.thieves.items) jobs,
               long,
               begins.count,
             ))
@@ -282,8 +277,5 @@ pub lent-again : (ends : List JobEnd) (owns : List DequeOwner) → owns ≡ end_
     All (IsLent (length ends)) (end_owners ends) → All (IsLent (length owns)) owns
 lent-again ends owns e lent =
     subst (λ os. All (IsLent (length os)) os) (sym e)
-    (subst (λ n. All (IsLent n) (end_owners ends)) (sym (long ends)) lent)
-  where
-    long : (ends : List JobEnd) → length (end_owners ends) ≡ length ends
-    long [] = refl
-    long (end ∷ ends) = ap suc (long ends)
+    (subst (λ n. All (IsLent n) (end_owners ends))
+    (sym (map-length (λ (end : JobEnd). end.own) ends)) lent)

@@ -1,12 +1,12 @@
 -- What a round leaves is a run that can be gone on from, and that goes on from the given one: the
 -- ends of its jobs and deques make a state at which workers may stop.
-use Rattle.std.proofs.Common.{◌≡◌, ℕ, ◌<◌, ◌≤◌, ◌+◌, ◌-◌, ◌^◌, ◌++◌, ◌⊎◌, inl, inr, true, false, min, List}
-use Rattle.std.proofs.Common.{[], ◌∷◌, length, map, flat_map, refl, sym, ap, ◌∙◌, subst, arith}
-use Rattle.std.proofs.Common.{append-nil, suc}
+use Rattle.std.proofs.Common.{◌≡◌, ℕ, ◌<◌, ◌≤◌, ◌-◌, ◌++◌, inl, inr, true}
+use Rattle.std.proofs.Common.{min, List}
+use Rattle.std.proofs.Common.{[], ◌∷◌, length, flat_map, refl, sym, ap, ◌∙◌, subst, arith}
+use Rattle.std.proofs.Common.{append-nil}
 use Rattle.std.specs.List.{AllByRecursion}
 use Rattle.list_laws.specs.Sets.{times, same_list}
 use Rattle.list_laws.proofs.Among.{each-append, each-weaker}
-use Rattle.list_laws.proofs.Times.{times-append}
 use Rattle.mill_model.specs.Charges.{ChargeTable}
 use Rattle.mill_model.specs.Conserved.{joined}
 use Rattle.mill_model.specs.declared.limits.TheConstants.{MAX_NODES}
@@ -17,21 +17,21 @@ use Rattle.search_step.specs.Honest.{IsHonest}
 use Rattle.search_step.specs.Parts.{Parts}
 use Rattle.search_step.specs.Promise.{EachSplitsAnew, SplitsEachAnew, records_of}
 use Rattle.search_step.specs.Resumable.{GoesOnFrom, IsResumable, start_of}
-use Rattle.search_step.specs.Steps.{task_at}
-use Rattle.core_machine.specs.Core.{Core, unclosed_by, unclosed_of}
-use Rattle.core_machine.specs.Counts.{own_count, split_count, sum_of, tickets_of}
+use Rattle.core_machine.specs.Core.{Core, unclosed_by}
+use Rattle.core_machine.specs.Counts.{sum_of, tickets_of}
 use Rattle.core_machine.specs.Ends.{is_calm}
 use Rattle.core_machine.specs.Kept.{IsGood, MayStop, best_of}
 use Rattle.core_machine.specs.Left.{IsLeftAfter}
 use Rattle.core_machine.proofs.Bests.{best-at-most}
+use Rattle.core_machine.proofs.Lists.{map-length}
 use Rattle.core_machine.proofs.Left.{run-at-most, run-goes-on, run-resumable}
 use Rattle.core_machine.proofs.Stops.{each-of-all, found-by-best}
 use Rattle.running_worker.specs.declared.job.Job.{Job}
 use Rattle.running_worker.specs.declared.job.JobEnd.{JobEnd}
 use Rattle.running_worker.specs.declared.round.Round.{Round}
-use Rattle.steal_workers.specs.Rounds.{Begins, HasEnded, best_left, end_hands, end_owners, end_seats}
-use Rattle.steal_workers.specs.Rounds.{path_left, work_left}
-use Rattle.steal_workers.specs.Words.{IsClosed, IsOpened}
+use Rattle.steal_workers.specs.Rounds.{Begins, HasEnded}
+use Rattle.steal_workers.specs.Rounds.{end_seats}
+use Rattle.steal_workers.specs.Words.{IsOpened}
 use Rattle.steal_workers.proofs.Ends.{Worked, all-fit, all-know, all-paths, all-tickets, as-many}
 use Rattle.steal_workers.proofs.Ends.{bests-left, each-worker, paths-left, pieces-left}
 use Rattle.steal_workers.proofs.Ends.{published-kept, workers-count, workers_of}
@@ -71,12 +71,9 @@ module _ (ranked : RankedOrders) (charges : ChargeTable) (workers budget : ℕ) 
     | inl start ↦ omega (arith, start, opened.start, best-at-most (start_of given) ws)
     | inr published ↦ published-kept ranked charges round (start_of given) ended.closed.least
         published.number jobs ends worked
-        (subst (λ n. published.number < n) (seats-long ends) published.there) published.by
+        (subst (λ n. published.number < n) (map-length end_seats ends) published.there)
+        published.by
   ]
-    where
-      seats-long : (ends : List JobEnd) → length (map end_seats ends) ≡ length ends
-      seats-long [] = refl
-      seats-long (end ∷ ends) = ap suc (seats-long ends)
 
   known : AllByRecursion (λ (w : Parts). run.loss ≤ w.known) ws
   known =

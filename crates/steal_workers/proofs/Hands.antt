@@ -1,10 +1,11 @@
 -- The thieves of each worker, as lists, and how one of these lists changes.
-use Rattle.std.proofs.Common.{◌≡◌, ◌≢◌, ℕ, zero, suc, ◌<◌, ◌+◌, List, [], ◌∷◌, ◌++◌, length, set}
-use Rattle.std.proofs.Common.{get_or, map, refl, sym, ap, ◌∙◌, arith}
+use Rattle.std.proofs.Common.{◌≡◌, ℕ, zero, suc, ◌<◌, List, [], ◌∷◌, ◌++◌, length, set}
+use Rattle.std.proofs.Common.{get_or, refl, sym, ap, ◌∙◌, arith}
 use Rattle.std.specs.declared.alloc.Global.{Global}
 use Rattle.std.specs.declared.vec.Vec.{Vec}
+use Rattle.core_machine.proofs.Lists.{get-set}
 use Rattle.steal_deques.specs.Deque.{DequeThief}
-use Rattle.steal_workers.specs.Deques.{Hands, hand_of, hands_in}
+use Rattle.steal_workers.specs.Deques.{hand_of, hands_in}
 
 abbrev Hand : Type 0
 Hand = Vec DequeThief Global
@@ -25,26 +26,6 @@ pub hands-length : (vs : List Hand) → length (hands_in vs) ≡ length vs
 hands-length [] = refl
 hands-length (v ∷ vs) = ap suc (hands-length vs)
 
-pub hand-set : (hands : Hands) (i : ℕ) (new : List DequeThief) → i < length hands →
-    hand_of (set hands i new) i ≡ new
-hand-set [] i new l = absurd (omega arith)
-hand-set (h ∷ hands) zero new l = refl
-hand-set (h ∷ hands) (suc i) new l = hand-set hands i new (omega arith)
-
-pub hand-else : (hands : Hands) (i j : ℕ) (new : List DequeThief) → j ≢ i →
-    hand_of (set hands i new) j ≡ hand_of hands j
-hand-else [] i j new n = refl
-hand-else (h ∷ hands) zero zero new n = absurd (n refl)
-hand-else (h ∷ hands) zero (suc j) new n = refl
-hand-else (h ∷ hands) (suc i) zero new n = refl
-hand-else (h ∷ hands) (suc i) (suc j) new n = hand-else hands i j new (λ e. n (ap suc e))
-
-pub hands-count : (hands : Hands) (i : ℕ) (new : List DequeThief) →
-    length (set hands i new) ≡ length hands
-hands-count [] i new = refl
-hands-count (h ∷ hands) zero new = refl
-hands-count (h ∷ hands) (suc i) new = ap suc (hands-count hands i new)
-
 -- a thief is put last into one of the lists
 pub given-to : (vs : List Hand) (i : ℕ) (v w : Hand) (thief : DequeThief) → i < length vs →
     v ≡ get_or vs i v → w.items ≡ v.items ++ thief ∷ [] →
@@ -62,7 +43,7 @@ pub taken-from : (vs : List Hand) (i : ℕ) (v w : Hand) (thief : DequeThief) �
 taken-from vs i v w thief l e popped =
     let new : hand_of (hands_in (set vs i w)) i ≡ w.items =
     ap (λ h. hand_of h i) (hands-set vs i w)
-    ∙ hand-set (hands_in vs) i w.items (omega (arith, l, hands-length vs)) in (
+    ∙ get-set (hands_in vs) i w.items [] (omega (arith, l, hands-length vs)) in (
       hand-is vs i v l e ∙ popped ∙ ap (λ h. h ++ thief ∷ []) (sym new),
       hands-set vs i w ∙ ap (set (hands_in vs) i) (sym new),
     )

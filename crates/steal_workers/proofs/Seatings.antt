@@ -1,12 +1,12 @@
 -- What the seats of all workers know together.
-use Rattle.std.proofs.Common.{◌≡◌, ℕ, zero, suc, ◌<◌, ◌≤◌, ◌+◌, ◌⊎◌, Bool, List, [], ◌∷◌, ◌++◌, length}
-use Rattle.std.proofs.Common.{get_or, min, refl, sym, ap, ◌∙◌, subst, arith, All, Contains, count_by}
+use Rattle.std.proofs.Common.{◌≡◌, ℕ, zero, suc, ◌≤◌, ◌+◌, ◌⊎◌, List, [], ◌∷◌, ◌++◌}
+use Rattle.std.proofs.Common.{min, refl, sym, ◌∙◌, subst, arith, All, Contains}
+use Rattle.std.proofs.Common.{count_by}
 use Rattle.std.proofs.Common.{cond, inl, inr, Some, nat_eq, nat_lt}
 use Rattle.std.proofs.lemmas.Bool.Decides.{nat_tests}
 use Rattle.std.proofs.lemmas.List.Elements.{All-cons, All-nil, All-pop, All-weaker}
 use Rattle.std.proofs.lemmas.List.Elements.{Contains-append_cases}
 use Rattle.std.proofs.lemmas.List.Sums.{sum_by-append, sum_by-cons}
-use Rattle.core_machine.specs.Counts.{sum_of}
 use Rattle.shared_words.specs.Best.{LeastLoss}
 use Rattle.shared_words.specs.Meter.{AreNumbersBelow, TicketMeter}
 use Rattle.steal_workers.specs.Seats.{AreJoined, AreSeatsOf, IsPublished, both_seats}
@@ -47,10 +47,11 @@ joins-more best meter other all whole whole' is joined e =
           (All-weaker (λ (s : Seats). whole.loss.seen ≤ s.loss.seen)
           (λ (s : Seats). min whole.loss.seen other.loss.seen ≤ s.loss.seen)
           (λ s l. omega (arith, l)) all joined.seen);
-      published = λ loss has. elim (Contains-append_cases whole.loss.mine other.loss.mine loss has) [
-        | inl before ↦ later other all loss (joined.published loss before)
-        | inr here ↦ record { number = 0; there = omega arith; by = λ d. here }
-      ];
+      published = λ loss has.
+          elim (Contains-append_cases whole.loss.mine other.loss.mine loss has) [
+            | inl before ↦ later other all loss (joined.published loss before)
+            | inr here ↦ record { number = 0; there = omega arith; by = λ d. here }
+          ];
       tickets = λ test. omega (
         arith,
         joined.tickets test,
@@ -59,8 +60,8 @@ joins-more best meter other all whole whole' is joined e =
     })
 
 -- the last of the seats comes first, and then one after another before it
-pub starts-joined : (best : LeastLoss) (meter : TicketMeter) (all rest : List Seats) (last : Seats) →
-    all ≡ rest ++ last ∷ [] → All (AreSeatsOf best meter) all →
+pub starts-joined : (best : LeastLoss) (meter : TicketMeter) (all rest : List Seats)
+    (last : Seats) → all ≡ rest ++ last ∷ [] → All (AreSeatsOf best meter) all →
     All (AreSeatsOf best meter) rest × AreSeatsOf best meter last
 starts-joined best meter all rest last is each =
     All-pop (AreSeatsOf best meter) all rest (Some last) is each

@@ -1,6 +1,7 @@
 -- The deques of a round: who owns one, who has a thief of one, and what they took.
-use Rattle.std.specs.Prelude.{◌≡◌, ◌≢◌, ◌<◌, ◌≤◌, ◌+◌, ◌-◌, ℕ, zero, suc, List, [], ◌∷◌, ◌++◌, All, cond}
-use Rattle.std.specs.Prelude.{get_or, length, ltb, map, vec_len}
+use Rattle.std.specs.Prelude.{◌≡◌, ◌≢◌, ◌<◌, ◌≤◌, ◌+◌, ◌-◌, ℕ, zero, suc, List, [], ◌∷◌, ◌++◌, All}
+use Rattle.std.specs.Prelude.{cond}
+use Rattle.std.specs.Prelude.{get_or, length, ltb, map}
 use Rattle.std.specs.declared.alloc.Global.{Global}
 use Rattle.std.specs.declared.vec.Vec.{Vec}
 use Rattle.atomic_blocks.specs.Lent.{RowsId}

@@ -1,5 +1,5 @@
 -- A round of new workers: what they begin with, what they end with, and what a run is then.
-use Rattle.std.specs.Prelude.{◌≡◌, ◌≤◌, ◌<◌, ◌+◌, ◌-◌, ◌^◌, ℕ, List, [], ◌∷◌, ◌++◌, All, flat_map}
+use Rattle.std.specs.Prelude.{◌≡◌, ◌<◌, ◌+◌, ◌-◌, ◌^◌, ℕ, List, [], ◌∷◌, ◌++◌, All, flat_map}
 use Rattle.std.specs.Prelude.{length, map, min, option_to_list}
 use Rattle.list_laws.specs.Sets.{times, same_list}
 use Rattle.mill_model.specs.declared.plan.Start.{Start}

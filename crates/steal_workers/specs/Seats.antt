@@ -1,5 +1,6 @@
 -- The seats of workers, at the least loss and at the tickets of a round.
-use Rattle.std.specs.Prelude.{◌≡◌, ◌≤◌, ◌<◌, ◌+◌, ℕ, Bool, false, ◌||◌, List, [], ◌++◌, All, Contains}
+use Rattle.std.specs.Prelude.{◌≡◌, ◌≤◌, ◌<◌, ◌+◌, ℕ, Bool, false, ◌||◌, List, [], ◌++◌, All}
+use Rattle.std.specs.Prelude.{Contains}
 use Rattle.std.specs.Prelude.{count_by, get_or, length, min}
 use Rattle.core_machine.specs.Counts.{sum_of}
 use Rattle.shared_words.specs.Best.{IsLossSeatOf, LeastLoss, LossSeat}

@@ -51,8 +51,8 @@ fn lend_to_others(
     requires unlent { IsUnlent (vec_len hands.old) own.old }
     requires number { number < vec_len hands.old }
     ensures lent { OnOk result (own.new ≡ record own.old { shares = 1 }) }
-    ensures dealt { OnOk result (DealsOne number (length hands.old.items) (new_thief own.old) (hands_in hands.old.items)
-        (hands_in hands.new.items)) }
+    ensures dealt { OnOk result (DealsOne number (length hands.old.items) (new_thief own.old)
+        (hands_in hands.old.items) (hands_in hands.new.items)) }
 {
     for taker in 0..hands.len() {
         if taker != number {

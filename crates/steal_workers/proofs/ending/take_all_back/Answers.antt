@@ -1,4 +1,4 @@
-use Rattle.std.proofs.Common.{rules, ◌≡◌, ◌≢◌, ◌<◌, ◌∙◌, ap, arith, length, sym}
+use Rattle.std.proofs.Common.{rules, ◌∙◌, ap, sym}
 use Rattle.steal_deques.specs.Deque.{DequeOwner}
 use Rattle.steal_workers.specs.Deques.{Home, hand_of, hands_in, home_of}
 use Rattle.steal_workers.proofs.Backs.{back-next, back-owner, last-home, next-has, some-last}
@@ -37,7 +37,8 @@ loop-taker-preserved c = elim c.if-taker-number.branch [
       (back-next c.args.own.now c.loop-taker.own c.args.number c.loop-taker.taker
       (hands_in c.args.hands.now.items) (hands_in c.loop-taker.hands.items) c.loop-taker.invariant
       w.take_back.new.self (hands_in w.take_last.new.hands.items) w.take_last.result
-      (search (rules, hands-length c.args.hands.now.items)) (search rules) w.take_last.ensures.last w.take_last.ensures.others
+      (search (rules, hands-length c.args.hands.now.items)) (search rules)
+      w.take_last.ensures.last w.take_last.ensures.others
       w.take_back.ensures))
   | else-taker-number w ↦ rw w.own-is (rw w.hands-is
       (back-owner c.args.own.now c.loop-taker.own c.args.number c.loop-taker.taker

@@ -1,4 +1,4 @@
-use Rattle.std.proofs.Common.{rules, ap, arith, length, length-append, ◌∷◌, []}
+use Rattle.std.proofs.Common.{ap, arith, length, length-append, ◌∷◌, []}
 use Rattle.std.specs.Vec.Iter.{into_iter_items}
 use Rattle.running_worker.specs.declared.job.Job.{Job}
 use Rattle.steal_workers.specs.Deques.{hands_in}

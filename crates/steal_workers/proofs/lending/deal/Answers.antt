@@ -1,4 +1,4 @@
-use Rattle.std.proofs.Common.{rules, ◌∙◌, arith, length}
+use Rattle.std.proofs.Common.{rules, ◌∙◌, length}
 use Rattle.steal_workers.specs.Deques.{hands_in}
 use Rattle.steal_workers.proofs.Deals.{all-new, dealt-more, new-owner}
 use Rattle.steal_workers.proofs.Hands.{hands-length}

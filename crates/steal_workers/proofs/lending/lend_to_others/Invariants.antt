@@ -1,4 +1,4 @@
-use Rattle.std.proofs.Common.{◌≡◌, ◌+◌, length, vec_len}
+use Rattle.std.proofs.Common.{◌≡◌, ◌+◌, vec_len}
 use Rattle.steal_workers.specs.Deques.{DealsOne, hands_in, new_thief, others_below}
 use Rattle.steal_workers.proofs.lending.lend_to_others.Given as goal
 

@@ -1,4 +1,3 @@
-use Rattle.std.proofs.Common.{rules}
 use Rattle.steal_workers.proofs.Begun.{begins}
 use Rattle.steal_workers.proofs.round.begin.Goals as goal
 

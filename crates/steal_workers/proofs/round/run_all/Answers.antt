@@ -1,4 +1,4 @@
-use Rattle.std.proofs.Common.{rules, ◌≡◌, ap, arith, get_or, length, map, subst, sym, IfOk}
+use Rattle.std.proofs.Common.{rules, ◌≡◌, ap, get_or, length, map, subst, sym, IfOk}
 use Rattle.std.proofs.lemmas.Result.{IfOk-weaker}
 use Rattle.core_machine.proofs.Lists.{map-length}
 use Rattle.running_worker.specs.Worked.{HasWorked}

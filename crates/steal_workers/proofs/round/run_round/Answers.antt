@@ -1,6 +1,5 @@
 use Rattle.std.proofs.lemmas.Result.{IfOk-weaker}
 use Rattle.search_step.specs.Promise.{records_of}
-use Rattle.search_step.specs.Resumable.{start_of}
 use Rattle.core_machine.proofs.InTree.{unclosed-in-tree}
 use Rattle.steal_workers.proofs.Ends.{may-end}
 use Rattle.steal_workers.proofs.GoesOn.{round-at-most, round-goes-on, round-resumable}

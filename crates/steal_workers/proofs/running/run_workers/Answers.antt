@@ -1,4 +1,4 @@
-use Rattle.std.proofs.Common.{rules, arith}
+use Rattle.std.proofs.Common.{arith}
 use Rattle.steal_workers.proofs.GoesOn.{anew-too}
 use Rattle.steal_workers.proofs.running.run_workers.Goals as goal
 

@@ -2,8 +2,11 @@
 #![tactic(auto)]
 
 mod chains;
+mod nodes;
 mod slab_links;
 #[cfg(test)]
 mod tests;
+mod tree_links;
 
 pub use slab_links::SlabLinks;
+pub use tree_links::TreeLinks;

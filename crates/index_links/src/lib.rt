@@ -1,4 +1,4 @@
-//! The orders of each slab of a plan as a list that an order enters and leaves in one step.
+//! Lists and trees that are linked by number: the orders of each slab of a plan, and a forest.
 #![tactic(auto)]
 
 mod chains;

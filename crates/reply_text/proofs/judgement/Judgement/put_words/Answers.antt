@@ -1,0 +1,16 @@
+use Rattle.reply_text.proofs.judgement.Judgement.put_words.Goals as goal
+
+pub returns-in-Heavy : goal.returns-in-Heavy
+returns-in-Heavy g c = rw c.in-Heavy.is c.put_both.ensures
+
+pub returns-in-Colourful : goal.returns-in-Colourful
+returns-in-Colourful g c = rw c.in-Colourful.is c.put_both-in-Colourful.ensures
+
+pub returns-in-LossDiffers : goal.returns-in-LossDiffers
+returns-in-LossDiffers g c = rw c.in-LossDiffers.is c.put_both-in-LossDiffers.ensures
+
+pub returns-in-Missing : goal.returns-in-Missing
+returns-in-Missing g c = rw c.in-Missing.is c.put_path.ensures
+
+pub returns-in-Unsound : goal.returns-in-Unsound
+returns-in-Unsound g c = rw c.in-Unsound.is c.put_path-in-Unsound.ensures

@@ -1,6 +1,7 @@
-ghost use Rattle.std.specs.Prelude.{◌≡◌, ◌++◌, ◌∷◌, [], decimal, flat_map, length};
+//! What is said of an answer to an instance, and the line that says so.
+ghost use Rattle.std.specs.Prelude.{◌≡◌, ◌+◌, ◌++◌, ◌∷◌, [], decimal, flat_map, length};
 ghost use Rattle.mill_io.specs.Blockwise.{PutsText};
-ghost use Rattle.reply_text.specs.Judgement.{is_accepted, words_of_judgement};
+ghost use Rattle.reply_text.specs.Judgement.{is_accepted, number_of, words_of_judgement};
 ghost use Rattle.line_text.specs.Numbers.{ordinal};
 
 use crate::line::put_both;
@@ -70,24 +71,24 @@ impl Judgement {
                 )
             }
             Judgement::Heavy { slab, load } => {
-                put_both(
+                put_counted(
                     sink,
                     block,
                     b"rejected heavy slab ",
-                    *slab as u64 + 1,
+                    *slab,
                     b" load ",
                     *load,
                 )
             }
             Judgement::Colourful { slab, colours } => {
-                let (slab, colours) = (*slab as u64 + 1, *colours as u64);
-                put_both(
+                let count = *colours as u64;
+                put_counted(
                     sink,
                     block,
                     b"rejected colourful slab ",
-                    slab,
+                    *slab,
                     b" colours ",
-                    colours,
+                    count,
                 )
             }
             Judgement::LossDiffers { stated, found } => {
@@ -101,13 +102,12 @@ impl Judgement {
                 )
             }
             Judgement::OrderDiffers { stated, found } => {
-                let first = found.map_or(0, |order| order as u64 + 1);
-                let stated = *stated as u64 + 1;
-                put_both(
+                let first = number_of(*found);
+                put_counted(
                     sink,
                     block,
                     b"rejected order stated ",
-                    stated,
+                    *stated,
                     b" found ",
                     first,
                 )
@@ -117,6 +117,32 @@ impl Judgement {
             Judgement::Unsound { path } => put_path(sink, block, b"rejected unsound ", path),
         }
     }
+}
+
+// The number of an order that is counted from 1, or 0 where there is none.
+fn number_of(order: Option<u16>) -> u64
+    ensures { result ≡ number_of order }
+{
+    match order {
+        Some(order) => order as u64 + 1,
+        None => 0,
+    }
+}
+
+// Puts words and a number in, twice; the first is of a thing that is counted from 0, and is put in
+// as counted from 1.
+fn put_counted<K: Sink>(
+    sink: &mut K,
+    block: &mut Block,
+    name: &[u8],
+    thing: u16,
+    other: &[u8],
+    count: u64,
+) -> Result<(), Failed>
+    ensures { PutsText K.written K.held K.faults sink.old sink.new block.old block.new
+        (name.now ++ decimal (thing + 1) ++ other.now ++ decimal count) result }
+{
+    put_both(sink, block, name, thing as u64 + 1, other, count)
 }
 
 // Puts words, the length of a path of a log and the path in.

@@ -1,3 +1,4 @@
+//! What a job is answered: its status and its text.
 ghost use Rattle.std.specs.Prelude.{◌≡◌, OnOk, OnErr};
 ghost use Rattle.std.specs.Io.KnownBytes.{Appends};
 ghost use Rattle.mill_io.specs.Blockwise.{PutsText};

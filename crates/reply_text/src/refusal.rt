@@ -1,3 +1,4 @@
+//! Why an input is refused, and the line that says so.
 ghost use Rattle.std.specs.Prelude.{◌++◌, ◌∷◌, []};
 ghost use Rattle.mill_io.specs.Blockwise.{PutsText};
 ghost use Rattle.reply_text.specs.Refusal.{words_of_refusal};

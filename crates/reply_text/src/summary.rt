@@ -1,3 +1,4 @@
+//! What came of the search of an instance that was made, and its lines.
 ghost use Rattle.std.specs.Prelude.{◌≡◌, ◌++◌, ◌∷◌, []};
 ghost use Rattle.mill_io.specs.Blockwise.{PutsText};
 ghost use Rattle.line_text.specs.Lines.{text_of};

@@ -1,5 +1,4 @@
-use Rattle.std.proofs.Common.{◌∷◌, ap, refl, rules, sym, ◌∙◌}
-use Rattle.std.specs.Fmt.{signed_decimal}
+use Rattle.std.proofs.Common.{refl, rules}
 use Rattle.mill_io.proofs.Blockwise.{put-behind, put-fails}
 use Rattle.line_text.specs.Numbers.{ordinal}
 use Rattle.line_text.proofs.print.put_ordinal.Goals as goal

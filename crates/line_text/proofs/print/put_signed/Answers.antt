@@ -1,7 +1,6 @@
-use Rattle.std.proofs.Common.{◌∷◌, ap, refl, rules, sym, ◌∙◌}
+use Rattle.std.proofs.Common.{refl, rules}
 use Rattle.std.specs.Fmt.{signed_decimal}
 use Rattle.mill_io.proofs.Blockwise.{put-behind, put-fails}
-use Rattle.line_text.specs.Numbers.{ordinal}
 use Rattle.line_text.proofs.print.put_signed.Goals as goal
 
 pub returns-in_err-put : goal.returns-in_err-put

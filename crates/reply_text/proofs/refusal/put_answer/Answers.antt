@@ -12,3 +12,6 @@ pub returns-in_ok-put_named-in-NotRising : goal.returns-in_ok-put_named-in-NotRi
 returns-in_ok-put_named-in-NotRising g c =
     rw c.in-NotRising.is (put-behind _ _ _ _ _ _ _ _ _ _ _ _ _ c.put.result refl
     c.in_ok-put_named-in-NotRising.ensures c.put.ensures)
+
+pub returns-in-CountDiffers : goal.returns-in-CountDiffers
+returns-in-CountDiffers g c = rw c.in-CountDiffers.is c.put_both.ensures

@@ -49,14 +49,12 @@ may-print orders (Infeasible place) few fits =
     record { numbers = (tt, (m, tt)); refutation = tt }
 
 -- the lines before `end`, and `end`
-pub printed-answer : (answer : Answer) (start lines text : List ℕ) → start ≡ []
-    → lines ≡ start ++ text_of (map spell (lines_of answer) ++ lines_of_log (refutation_of answer))
-    → text ≡ lines ++ codes "end\n" → text ≡ answer_text answer
-printed-answer answer start lines text a b c =
+pub answer-and-end : (answer : Answer) → answer_text answer
+    ≡ text_of (map spell (lines_of answer) ++ lines_of_log (refutation_of answer)) ++ codes "end\n"
+answer-and-end answer =
     let front = map spell (lines_of answer) in let log = lines_of_log (refutation_of answer) in
-    c ∙ ap (λ l. l ++ codes "end\n") (b ∙ ap (λ l. l ++ text_of (front ++ log)) a)
-    ∙ sym (text_of-append (front ++ log) (codes "end" ∷ []))
-    ∙ ap text_of (append_assoc front log (codes "end" ∷ []))
+    ap text_of (sym (append_assoc front log (codes "end" ∷ [])))
+    ∙ text_of-append (front ++ log) (codes "end" ∷ [])
 
 log-ends : (refutation : Option Logged) → IfSome refutation IsLog
     → Ends refutation (lines_of_log refutation ++ codes "end" ∷ [])
@@ -95,29 +93,38 @@ read-back orders answer text printed is few fits =
         (lacks-lines orders (lines_of answer) (omega arith) (plain-lines answer) fits.numbers)
         (lacks-log (refutation_of answer) is)
 
--- the lines of a plan and what it loses, part by part
-pub printed-planned : (lost : ℕ) (slabs : List ℕ) (before one two three four : List ℕ)
-    → one ≡ before ++ (codes "loss " ++ decimal lost ++ 10 ∷ []) → two ≡ one ++ codes "plan"
-    → three ≡ two ++ flat_map (λ s. 32 ∷ ordinal s) slabs → four ≡ three ++ 10 ∷ []
-    → four ≡ before ++ text_of (spell (loss lost) ∷ spell (plan slabs) ∷ [])
-printed-planned lost slabs before one two three four a b c d =
-    let line : spell (plan slabs) ≡ codes "plan" ++ flat_map (λ s. 32 ∷ ordinal s) slabs =
+-- the line of a plan and what stands before it, part by part
+pub plan-parts : (name slabs things : List ℕ) (lost : ℕ) → things ≡ slabs
+    → name ++ (decimal lost ++ 10 ∷ (spell (plan slabs) ++ 10 ∷ []))
+    ≡ (name ++ decimal lost)
+    ++ (codes "\nplan" ++ (flat_map (λ s. 32 ∷ ordinal s) things ++ 10 ∷ []))
+plan-parts name slabs things lost e =
+    let line : spell (plan slabs) ≡ codes "plan" ++ flat_map (λ s. 32 ∷ ordinal s) things =
     line-cons (codes "plan") (ordinals slabs)
-    ∙ ap (λ l. codes "plan" ++ l) (spaced-path slabs) in
-    rw (d, c, b, a, line) (grouped before (codes "loss " ++ decimal lost) (codes "plan")
-    (flat_map (λ s. 32 ∷ ordinal s) slabs))
-  where
-    grouped : (before first word rest : List ℕ)
-        → (((before ++ (first ++ 10 ∷ [])) ++ word) ++ rest) ++ 10 ∷ []
-        ≡ before ++ (first ++ 10 ∷ ((word ++ rest) ++ 10 ∷ []))
-    grouped before first word rest = simp append_assoc
+    ∙ ap (λ l. codes "plan" ++ l) (spaced-path slabs ∙ ap (flat_map (λ s. 32 ∷ ordinal s)) (sym e))
+    in
+    rw line (sym (append_assoc name (decimal lost)
+    (codes "\nplan" ++ (flat_map (λ s. 32 ∷ ordinal s) things ++ 10 ∷ []))))
 
--- the lines that name an order are printed
-pub printed-order : {T E : Type 0} (result : Result T E) (place number : ℕ)
-    (before one two : List ℕ) → number ≡ place → one ≡ before ++ codes "infeasible\n"
-    → OnOk result (two ≡ one ++ (codes "order " ++ decimal (number + 1) ++ 10 ∷ []))
-    → OnOk result (two ≡ before ++ text_of (map spell (lines_of (Infeasible place)) ++ []))
-printed-order (Ok x) place number before one two n a b =
-    rw (b, a, n) (append_assoc before (codes "infeasible\n")
-    (codes "order " ++ decimal (place + 1) ++ 10 ∷ []))
-printed-order (Err e) place number before one two n a b = tt
+-- what comes behind a plan
+behind-plan : (word number line rest : List ℕ)
+    → word ++ (number ++ 10 ∷ (line ++ 10 ∷ rest))
+    ≡ (word ++ (number ++ 10 ∷ (line ++ 10 ∷ []))) ++ rest
+behind-plan word number line rest = simp append_assoc
+
+-- the lines of each kind of answer, part by part
+pub optimal-parts : (lost : ℕ) (slabs : List ℕ) (refutation : Option Logged)
+    → text_of (map spell (lines_of (Optimal lost slabs refutation)) ++ lines_of_log refutation)
+    ≡ (codes "optimal\nloss " ++ (decimal lost ++ 10 ∷ (spell (plan slabs) ++ 10 ∷ [])))
+    ++ text_of (lines_of_log refutation)
+optimal-parts lost slabs refutation =
+    behind-plan (codes "optimal\nloss ") (decimal lost) (spell (plan slabs))
+    (text_of (lines_of_log refutation))
+
+pub feasible-parts : (lost : ℕ) (slabs : List ℕ) (closed : ℕ)
+    → text_of (map spell (lines_of (Feasible lost slabs closed)) ++ [])
+    ≡ (codes "feasible\nloss " ++ (decimal lost ++ 10 ∷ (spell (plan slabs) ++ 10 ∷ [])))
+    ++ (codes "spent " ++ (decimal closed ++ 10 ∷ []))
+feasible-parts lost slabs closed =
+    behind-plan (codes "feasible\nloss ") (decimal lost) (spell (plan slabs))
+    (codes "spent " ++ (decimal closed ++ 10 ∷ []))

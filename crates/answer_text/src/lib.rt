@@ -12,5 +12,5 @@ mod tests;
 
 pub use answer::Answer;
 pub use error::AnswerTextError;
-pub use print::print_answer;
+pub use print::{print_answer, put_answer, write_answer};
 pub use read::parse_answer;

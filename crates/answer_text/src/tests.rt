@@ -1,9 +1,12 @@
 //! Each kind of answer once, with ample memory; the clauses of the reader and the printer say which
-//! text is which answer, and what each refusal means.
+//! text is which answer, and what each refusal means. A text of several blocks is written too, and
+//! each text to sinks with less room.
 ghost use Rattle.std.specs.Prelude.{◌≤◌, length, IfOk};
 ghost use Rattle.mill_model.specs.declared.order.TheConstants.{MAX_ORDERS};
+ghost use Rattle.answer_text.specs.Text.{most_orders, Fits};
 
 use super::*;
+use mill_io::{Failed, MemSink, Sink, VecSink};
 use mill_model::{Instance, Order, OutOfMemory};
 use std::alloc::Global;
 use std::test::Fail;
@@ -18,6 +21,15 @@ fn instance_of(alloc: Global, orders: u16) -> Result<Instance, OutOfMemory>
     };
     let orders = vec![in alloc; order; orders.min(1024) as usize]?;
     Ok(Instance::new(vec![in alloc; 4]?, 1, orders, 2))
+}
+
+// The answer that a text stands for.
+fn answer_of(alloc: Global, orders: u16, text: &[u8]) -> Result<Answer, AnswerTextError>
+    ensures { IfOk result (λ answer. Fits (most_orders answer) answer) }
+{
+    let instance = instance_of(alloc, orders)?;
+    let answer = parse_answer(alloc, &instance, text)?;
+    Ok(answer)
 }
 
 // Each row: how many orders, and a text that is printed as it is read.
@@ -35,8 +47,7 @@ fn reads_and_prints_again(rt: HostRuntime) -> Result<(), Fail> {
         (1024, "infeasible\norder 1024\nend\n"),
     ];
     for (orders, text) in rows {
-        let instance = instance_of(alloc, orders)?;
-        let answer = parse_answer(alloc, &instance, text.as_bytes())?;
+        let answer = answer_of(alloc, orders, text.as_bytes())?;
         assert!(rt; print_answer(alloc, &answer)?.as_slice() == text.as_bytes());
     }
     Ok(())
@@ -68,6 +79,87 @@ fn refuses_at_the_first_wrong_line(rt: HostRuntime) -> Result<(), Fail> {
     for (text, want) in rows {
         let read = parse_answer(alloc, &instance, text.as_bytes());
         assert!(rt; read.is_err_and(|error| error == want));
+    }
+    Ok(())
+}
+
+// An optimal answer for 1024 orders on one slab, whose log has one line with 1024 prices.
+fn long_text(alloc: Global) -> Result<Vec<u8>, OutOfMemory> {
+    let mut text = b"optimal\nloss 0\nplan".to_vec(alloc)?;
+    for _ in 0..1024 {
+        text.extend_from_slice(b" 1")?;
+    }
+    text.extend_from_slice(b"\nlog 1 1\nP 0")?;
+    for _ in 0..1024 {
+        text.extend_from_slice(b" -20000000000")?;
+    }
+    text.extend_from_slice(b"\nend\n")?;
+    Ok(text)
+}
+
+// A sink that keeps the lengths of the first eight pieces.
+#[derive(Drop)]
+struct PieceLengths {
+    lengths: [usize; 8],
+    count: usize,
+}
+
+impl Sink for PieceLengths {
+    ghost use Rattle.std.specs.Prelude.{None};
+
+    ghost written = { λ _. None };
+
+    ghost held = { λ _. None };
+
+    ghost faults = { λ _. 0 };
+
+    fn write_all(&mut self, piece: &[u8]) -> Result<(), Failed> {
+        if self.count < 8 {
+            self.lengths[self.count] = piece.len();
+            self.count += 1;
+        }
+        Ok(())
+    }
+}
+
+// The text has 19 bytes before the plan, 2 for each order, 12 before the prices, 13 for each price
+// and 5 at its end: 15396, three blocks and 3108 bytes.
+#[test]
+fn a_long_answer_is_written_in_blocks(rt: HostRuntime) -> Result<(), Fail> {
+    let alloc = rt.alloc();
+    let text = long_text(alloc)?;
+    let answer = answer_of(alloc, 1024, &text)?;
+    let mut whole = VecSink::new(alloc);
+    assert_eq!(rt; write_answer(&mut whole, &answer), Ok(()));
+    assert!(rt; whole.into_bytes() == text);
+    assert!(rt; print_answer(alloc, &answer)? == text);
+
+    let mut pieces = PieceLengths {
+        lengths: [0; 8],
+        count: 0,
+    };
+    assert_eq!(rt; write_answer(&mut pieces, &answer), Ok(()));
+    assert_eq!(rt; pieces.lengths, [4096, 4096, 4096, 3108, 0, 0, 0, 0]);
+    for room in [0, 1, 4095, 4096, 4097, 8192, 12288, 15395, 15396] {
+        let mut sink = MemSink::new(alloc, room, &[])?;
+        let wrote = write_answer(&mut sink, &answer);
+        assert_eq!(rt; wrote.is_ok(), room == 15396, "at room {room}");
+        assert!(rt; text.get(..room) == Some(sink.bytes()), "at room {room}");
+    }
+    Ok(())
+}
+
+// An answer of 30 bytes goes into a sink with less room, or just enough.
+#[test]
+fn a_front_of_an_answer_is_written(rt: HostRuntime) -> Result<(), Fail> {
+    let alloc = rt.alloc();
+    let text: &[u8] = b"optimal\nloss 4\nplan 1 2 1\nend\n";
+    let answer = answer_of(alloc, 3, text)?;
+    for room in 0..=30 {
+        let mut sink = MemSink::new(alloc, room, &[])?;
+        let wrote = write_answer(&mut sink, &answer);
+        assert_eq!(rt; wrote.is_ok(), room == 30, "at room {room}");
+        assert!(rt; text.get(..room) == Some(sink.bytes()), "at room {room}");
     }
     Ok(())
 }

@@ -1,6 +1,6 @@
 -- What workers leave that went on from a run and came to where they may stop: a run that can be gone
 -- on from, and that goes on from the given one.
-use Rattle.std.proofs.Common.{ℕ, ◌+◌, ◌≤◌, ◌<◌, ◌≡◌, ◌≢◌, true, min, List, [], ◌∷◌, ◌++◌, length}
+use Rattle.std.proofs.Common.{ℕ, ◌≤◌, ◌<◌, ◌≡◌, true, min, List, [], ◌∷◌, ◌++◌, length}
 use Rattle.std.proofs.Common.{refl, sym, ap, ◌∙◌, subst, arith, inl}
 use Rattle.std.specs.List.{AllByRecursion}
 use Rattle.list_laws.specs.Sets.{same_list, times, SameTimes}
@@ -27,7 +27,7 @@ use Rattle.core_machine.proofs.Promise.{counted-with, least-at-most, pieces-anew
 use Rattle.core_machine.proofs.Promise.{sound-with}
 use Rattle.core_machine.specs.Core.{Core, pieces_of, unclosed_of}
 use Rattle.core_machine.specs.Ends.{IsAtEnd}
-use Rattle.core_machine.specs.Kept.{MayStop, best_of}
+use Rattle.core_machine.specs.Kept.{MayStop}
 use Rattle.core_machine.specs.Left.{IsLeftAfter}
 
 -- what is conserved with some unclosed paths is so with the same in another order
@@ -68,8 +68,11 @@ module _ (ranked : RankedOrders) (charges : ChargeTable) (budget : ℕ) (given :
 
   pub run-at-most : run.loss ≤ given.loss
   run-at-most =
-      omega (arith, run-loses,
-      least-at-most ranked charges given.loss budget before given.unclosed.items c stop)
+      omega (
+        arith,
+        run-loses,
+        least-at-most ranked charges given.loss budget before given.unclosed.items c stop,
+      )
 
   all-conserved : IsConserved task (records_of run) run.unclosed.items
   all-conserved =

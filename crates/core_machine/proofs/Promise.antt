@@ -1,12 +1,11 @@
 -- What workers leave where they may stop keeps the promise of a run: with the pieces and the unclosed
 -- paths that they began with, no path is lost or recorded twice, each record is sound for the least
 -- loss, which the best plan loses, and each ticket is a record.
-use Rattle.std.proofs.Common.{ℕ, suc, ◌+◌, ◌<◌, ◌≤◌, ◌≡◌, ◌≢◌, inl, inr, min, Bool, true}
-use Rattle.std.proofs.Common.{false, not, ◌&&◌, ◌||◌, List, [], ◌∷◌, ◌++◌, length, flat_map}
-use Rattle.std.proofs.Common.{get_or, Option, Some, None, option_to_list, refl, sym, ap, ◌∙◌, subst}
+use Rattle.std.proofs.Common.{ℕ, suc, ◌+◌, ◌<◌, ◌≤◌, ◌≡◌, ◌≢◌, inl, inr, min, true, false, List, []}
+use Rattle.std.proofs.Common.{◌∷◌, ◌++◌, length, flat_map, get_or, Some, refl}
 use Rattle.std.proofs.lemmas.Int.{ints}
 use Rattle.std.proofs.Common.{arith, int_le, ℤ, pos, ◌-ℤ◌, ◌*ℤ◌}
-use Rattle.std.specs.List.{AllByRecursion, list_all}
+use Rattle.std.specs.List.{AllByRecursion}
 use Rattle.list_laws.specs.Sets.{same_list}
 use Rattle.list_laws.proofs.Among.{each-append, each-weaker}
 use Rattle.list_laws.proofs.Tests.{and-left, and-right, clash}
@@ -23,12 +22,10 @@ use Rattle.mill_model.specs.declared.closing.Closing.{Closing}
 use Rattle.mill_model.specs.declared.closing.Closing.TheVariants.{Split, Leaf, Priced, Dominated}
 use Rattle.mill_model.specs.declared.plan.Start.{Start}
 use Rattle.order_symmetry.specs.Ranked.{RankedOrders}
-use Rattle.refute_log.specs.Fits.{fits}
-use Rattle.refute_log.specs.declared.piece.Run.{Run}
 use Rattle.search_step.specs.Accounts.{in_work}
 use Rattle.search_step.specs.Honest.{IsHonest, IsKept}
 use Rattle.search_step.specs.Parts.{Parts}
-use Rattle.search_step.specs.Promise.{EachSplitsAnew, IsRun, SplitsEachAnew, records_of}
+use Rattle.search_step.specs.Promise.{EachSplitsAnew, SplitsEachAnew}
 use Rattle.search_step.specs.Steps.{task_at}
 use Rattle.search_step.specs.declared.parts.Phase.{Phase}
 use Rattle.search_step.specs.declared.parts.Phase.TheVariants.{Resting, Taking, Stealing, Holding}
@@ -40,10 +37,10 @@ use Rattle.core_machine.proofs.Joined.{each-piece, length-both, length-counted, 
 use Rattle.core_machine.proofs.Joined.{own-counted, queued-counted, recorded-both, split-both}
 use Rattle.core_machine.proofs.Joined.{split-counted}
 use Rattle.core_machine.proofs.Lists.{all-from-places}
-use Rattle.core_machine.specs.Core.{Core, any_busy, is_busy, is_empty, no_worker, pieces_of}
+use Rattle.core_machine.specs.Core.{Core, no_worker, pieces_of}
 use Rattle.core_machine.specs.Core.{unclosed_by, unclosed_of, worker}
 use Rattle.core_machine.specs.Counts.{sum_of, tickets_of}
-use Rattle.core_machine.specs.Ends.{is_calm, is_drained}
+use Rattle.core_machine.specs.Ends.{is_calm}
 use Rattle.core_machine.specs.Kept.{MayStop, best_of}
 use Rattle.core_machine.specs.Steady.{EachWorker}
 

@@ -1,21 +1,17 @@
 -- States at which workers may stop: the last state of a machine's run, and what is found there of a
 -- least loss that is the loss of the best plan.
-use Rattle.std.proofs.Common.{ℕ, zero, suc, ◌<◌, ◌≤◌, ◌≡◌, ◌≢◌, ◌⊎◌, inl, inr, Bool, true, false}
-use Rattle.std.proofs.Common.{cond, ltb, List, [], ◌∷◌, length, get_or, Option, Some, None, refl, sym}
-use Rattle.std.proofs.Common.{ap, ◌∙◌, arith}
+use Rattle.std.proofs.Common.{ℕ, ◌≤◌, ◌≡◌, inl, inr, true, List, ap, ◌∙◌, arith}
 use Rattle.std.specs.List.{AllByRecursion}
-use Rattle.list_laws.proofs.Tests.{clash}
 use Rattle.mill_model.specs.Charges.{ChargeTable}
 use Rattle.mill_model.specs.declared.plan.Start.{Start}
 use Rattle.order_symmetry.specs.Ranked.{RankedOrders}
 use Rattle.search_step.specs.Parts.{Parts}
-use Rattle.search_step.specs.declared.parts.Phase.TheVariants.{Publishing}
 use Rattle.core_machine.proofs.Bests.{best-among}
 use Rattle.core_machine.proofs.Lists.{all-get}
 use Rattle.core_machine.proofs.Promise.{calm-at-rest}
 use Rattle.core_machine.specs.Core.{Core, no_worker, worker}
 use Rattle.core_machine.specs.Ends.{is_calm}
-use Rattle.core_machine.specs.Kept.{HasPlan, IsFound, IsLast, MayStop, best_of}
+use Rattle.core_machine.specs.Kept.{IsFound, IsLast, MayStop, best_of}
 use Rattle.core_machine.specs.Steady.{EachWorker}
 
 -- the last state of a run is one of them

@@ -1,5 +1,5 @@
 -- What workers leave that went on from a run.
-use Rattle.std.specs.Prelude.{ℕ, ◌≡◌, ◌++◌}
+use Rattle.std.specs.Prelude.{◌≡◌, ◌++◌}
 use Rattle.list_laws.specs.Sets.{same_list, SameTimes}
 use Rattle.refute_log.specs.declared.piece.Run.{Run}
 use Rattle.search_step.specs.Promise.{records_of}

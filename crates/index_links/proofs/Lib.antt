@@ -4,3 +4,9 @@ pub mod Moved
 pub mod Views
 pub mod Made
 pub mod Members
+pub mod Inserted
+pub mod WithNode
+pub mod KeepsForest
+pub mod ForestLinks
+pub mod Walked
+pub mod LinksWithNode

@@ -10,7 +10,7 @@ use Rattle.list_laws.proofs.Tests.{clash, either, or-cases, or-left, or-right}
 use Rattle.list_laws.proofs.Different.{holds-append, without-none}
 use Rattle.list_laws.specs.Without.{without}
 use Rattle.index_links.specs.Lists.{Apart, after}
-use Rattle.index_links.specs.Links.{look, Chain, walk}
+use Rattle.index_links.specs.Links.{last_or, look, Chain, walk}
 
 -- Lists without repeats.
 
@@ -93,11 +93,7 @@ chain-after nexts previous before at (x ∷ xs) o h c = elim (either (eqb o x)) 
   | inr f ↦ rw f (chain-after nexts previous (Some x) (look nexts x) xs o (rw f at h) c.2)
 ]
 
--- what stands before a number, and where a chain begins without it
-abbrev pub last_or : Option ℕ → List ℕ → Option ℕ
-last_or before [] = before
-last_or before (x ∷ xs) = last_or (Some x) xs
-
+-- where a chain begins without a number
 abbrev pub begin : List ℕ → Option ℕ → Option ℕ → Option ℕ
 begin [] next at = next
 begin (x ∷ xs) next at = at

@@ -9,17 +9,17 @@ use Rattle.list_laws.proofs.Different.{holds-append}
 use Rattle.list_laws.specs.Without.{without}
 use Rattle.list_laws.proofs.Different.{without-none}
 use Rattle.index_links.specs.Lists.{Apart}
-use Rattle.index_links.specs.Links.{look, is_none, is_some, Chain}
+use Rattle.index_links.specs.Links.{last_or, look, is_none, is_some, Chain}
 use Rattle.index_links.proofs.LinkedLists.{holds-rest, Around, around, apart-parts}
 use Rattle.index_links.proofs.LinkedLists.{without-around, chain-before, chain-next}
-use Rattle.index_links.proofs.LinkedLists.{first-holds, last-holds, last_or, begin, chain-first}
+use Rattle.index_links.proofs.LinkedLists.{first-holds, last-holds, begin, chain-first}
 use Rattle.index_links.proofs.LinkedLists.{chain-stays, chain-without, chain-with}
 
 -- whether a place that may be none is this number
-is_some-yes : (m : Option ℕ) (z : ℕ) → m ≡ Some z → is_some m z ≡ true
+pub is_some-yes : (m : Option ℕ) (z : ℕ) → m ≡ Some z → is_some m z ≡ true
 is_some-yes m z e = subst (λ n. is_some n z ≡ true) (sym e) (eq-eqb z z refl)
 
-is_some-no : (m : Option ℕ) (z : ℕ) → m ≢ Some z → is_some m z ≡ false
+pub is_some-no : (m : Option ℕ) (z : ℕ) → m ≢ Some z → is_some m z ≡ false
 is_some-no None z h = refl
 is_some-no (Some x) z h = ne_eqb z x (λ e. h (ap (λ y. Some y) (sym e)))
 

@@ -1,2 +1,5 @@
 pub mod Lists
 pub mod Links
+pub mod Forest
+pub mod Nodes
+pub mod Rows

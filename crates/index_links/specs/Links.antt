@@ -29,6 +29,11 @@ Chain nexts previous before at [] = at ≡ None
 Chain nexts previous before at (x ∷ xs) =
     (at ≡ Some x) × (look previous x ≡ before) × Chain nexts previous (Some x) (look nexts x) xs
 
+-- the last number of a list, or what stands before it
+abbrev pub last_or : Option ℕ → List ℕ → Option ℕ
+last_or before [] = before
+last_or before (x ∷ xs) = last_or (Some x) xs
+
 -- the list that a chain of at most so many numbers makes
 abbrev pub walk : List (Option ℕ) → Option ℕ → ℕ → List ℕ
 walk nexts None n = []

@@ -1,5 +1,6 @@
-//! A move by hand, and random moves against a plain list of slab numbers.
-ghost use Rattle.std.specs.Prelude.{◌≡◌, ◌<◌, length};
+//! A move by hand, random moves against a plain list of slab numbers, and a small forest.
+ghost use Rattle.std.specs.Prelude.{◌≡◌, ◌<◌, IfOk, length};
+ghost use Rattle.index_links.specs.Rows.{small_forest};
 
 use super::*;
 use mill_model::{MAX_ORDERS, OutOfMemory, Plan};
@@ -104,5 +105,35 @@ fn random_moves_agree_with_slab_numbers(rt: HostRuntime) -> Result<(), Fail> {
         let wanted = expected(alloc, &slabs, &times, slab)?;
         assert_eq!(rt; found.as_slice(), wanted.as_slice());
     }
+    Ok(())
+}
+
+// A root with the children 2 and 1, in this order of coming, and a second root.
+fn small_forest(alloc: Global) -> Result<TreeLinks, OutOfMemory>
+    ensures { IfOk result (λ tree. tree ≡ small_forest) }
+{
+    let mut tree = TreeLinks::new(alloc);
+    tree.add(None, 0)?;
+    tree.add(Some(0), 2)?;
+    tree.add(Some(0), 1)?;
+    tree.add(None, 0)?;
+    Ok(tree)
+}
+
+#[test]
+fn children_stand_by_rising_label(rt: HostRuntime) -> Result<(), Fail> {
+    let tree = small_forest(rt.alloc())?;
+    assert_eq!(rt;
+        (tree.first_child(0), tree.next_sibling(2)),
+        (Some(2), Some(1))
+    );
+    assert_eq!(rt; (tree.label(2), tree.label(1)), (1, 2));
+    assert_eq!(rt; (tree.next_sibling(1), tree.first_child(1)), (None, None));
+    assert_eq!(rt; (tree.parent(1), tree.parent(2)), (Some(0), Some(0)));
+    assert_eq!(rt; (tree.parent(0), tree.parent(3)), (None, None));
+    assert_eq!(rt;
+        (tree.next_sibling(0), tree.next_sibling(3)),
+        (Some(3), None)
+    );
     Ok(())
 }

@@ -12,5 +12,5 @@ mod words;
 
 pub use digits::leading_digits;
 pub use lines::{Lines, is_end, is_white};
-pub use print::{push_number, push_ordinals, push_signed_numbers};
+pub use print::{put_named, put_number, put_ordinals, put_signed_numbers};
 pub use words::Words;

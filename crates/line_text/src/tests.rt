@@ -1,6 +1,8 @@
 use crate::{
-    Lines, Words, is_end, is_white, leading_digits, push_number, push_ordinals, push_signed_numbers,
+    Lines, Words, is_end, is_white, leading_digits, put_named, put_number, put_ordinals,
+    put_signed_numbers,
 };
+use mill_io::{Block, VecSink};
 use std::test::Fail;
 
 #[test]
@@ -116,10 +118,14 @@ fn cuts_lines(rt: HostRuntime) {
 #[test]
 fn prints(rt: HostRuntime) -> Result<(), Fail> {
     let alloc = rt.alloc();
-    let mut text = Vec::new(alloc);
-    push_number(&mut text, 1_000_000_000_000)?;
-    push_ordinals(&mut text, &[0, 1023])?;
-    push_signed_numbers(&mut text, &[0, -20_000_000_000, 7])?;
-    assert!(rt; text.as_slice() == b"1000000000000 1 1024 0 -20000000000 7".as_slice());
+    let mut text = VecSink::new(alloc);
+    let mut block = Block::new();
+    put_number(&mut text, &mut block, 1_000_000_000_000)?;
+    put_ordinals(&mut text, &mut block, &[0, 1023])?;
+    put_signed_numbers(&mut text, &mut block, &[0, -20_000_000_000, 7])?;
+    put_named(&mut text, &mut block, b" of ", 10)?;
+    block.finish(&mut text)?;
+    let text = text.into_bytes();
+    assert!(rt; text.as_slice() == b"1000000000000 1 1024 0 -20000000000 7 of 10".as_slice());
     Ok(())
 }

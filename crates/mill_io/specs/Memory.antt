@@ -1,4 +1,4 @@
--- What a source and a sink in memory show.
+-- What sources and sinks in memory show.
 use Rattle.std.specs.Prelude.{ℕ, List}
 
 -- the bytes that were given, those to come, the most that one read gives, the numbers of the reads
@@ -24,3 +24,8 @@ pub record Store : Type 0 where
 pub record Feed : Type 0 where
   pub given : List ℕ
   pub left : List ℕ
+
+-- the bytes that were kept, and how many writes failed
+pub record Kept : Type 0 where
+  pub kept : List ℕ
+  pub faults : ℕ

@@ -2,13 +2,19 @@
 //! over std, and the call that reads a source to its end.
 #![tactic(auto)]
 
+mod block;
+mod growing;
 mod history;
+mod laws;
 mod memory;
 mod read;
 mod standard;
 mod steady;
 mod stream;
 
+pub use block::{BLOCK, Block};
+pub use growing::VecSink;
+pub use laws::block_size;
 pub use memory::{MemSink, MemSource};
 pub use read::{ReadError, read_all};
 pub use standard::{StdSink, StdSource};

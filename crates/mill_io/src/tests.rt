@@ -117,3 +117,87 @@ fn readers_and_writers_of_std_serve(rt: HostRuntime) -> Result<(), Fail> {
     assert_eq!(rt; room.as_slice(), b"hel".as_slice());
     Ok(())
 }
+
+// A sink that keeps the lengths of the first eight pieces.
+#[derive(Drop)]
+struct PieceLengths {
+    lengths: [usize; 8],
+    count: usize,
+}
+
+impl Sink for PieceLengths {
+    ghost use Rattle.std.specs.Prelude.{None};
+
+    ghost written = { λ _. None };
+
+    ghost held = { λ _. None };
+
+    ghost faults = { λ _. 0 };
+
+    fn write_all(&mut self, piece: &[u8]) -> Result<(), Failed> {
+        if self.count < 8 {
+            self.lengths[self.count] = piece.len();
+            self.count += 1;
+        }
+        Ok(())
+    }
+}
+
+// Puts a text through a block, in pieces of so many bytes.
+fn put_in_pieces<K: Sink>(sink: &mut K, text: &[u8], size: usize) -> Result<(), Failed> {
+    let mut block = Block::new();
+    for piece in text.chunks(size.max(1)) {
+        block.put(sink, piece)?;
+    }
+    block.finish(sink)
+}
+
+// Each row: the length of a text, and those of the pieces that are written.
+#[test]
+fn whole_blocks_are_written_and_the_rest_last(rt: HostRuntime) -> Result<(), Fail> {
+    let rows: [(usize, &[usize]); 7] = [
+        (0, &[]),
+        (1, &[1]),
+        (4095, &[4095]),
+        (4096, &[4096]),
+        (4097, &[4096, 1]),
+        (8192, &[4096, 4096]),
+        (9000, &[4096, 4096, 808]),
+    ];
+    for (length, want) in rows {
+        let text = vec![in rt.alloc(); b'x'; length]?;
+        for size in [1, 7, 4096, 5000, 9000] {
+            let mut sink = PieceLengths {
+                lengths: [0; 8],
+                count: 0,
+            };
+            assert_eq!(rt; put_in_pieces(&mut sink, &text, size), Ok(()));
+            assert_eq!(rt;
+                &sink.lengths[..sink.count.min(8)],
+                want,
+                "in pieces of {size}"
+            );
+        }
+    }
+    Ok(())
+}
+
+// A text of 9000 bytes goes into a sink with less room, or just enough.
+#[test]
+fn a_front_of_the_text_is_written(rt: HostRuntime) -> Result<(), Fail> {
+    let alloc = rt.alloc();
+    let mut text = vec![in alloc; b'x'; 9000]?;
+    for (at, byte) in text.iter_mut().enumerate() {
+        *byte = (at % 251) as u8;
+    }
+    let mut whole = VecSink::new(alloc);
+    assert_eq!(rt; put_in_pieces(&mut whole, &text, 7), Ok(()));
+    assert!(rt; whole.into_bytes() == text);
+    for room in [0, 1, 4095, 4096, 4097, 8192, 8999, 9000] {
+        let mut sink = MemSink::new(alloc, room, &[])?;
+        let wrote = put_in_pieces(&mut sink, &text, 7);
+        assert_eq!(rt; wrote.is_ok(), room == 9000, "at room {room}");
+        assert!(rt; text.get(..room) == Some(sink.bytes()), "at room {room}");
+    }
+    Ok(())
+}

@@ -1,4 +1,11 @@
-pub mod ByPath
 pub mod Reordered
 pub mod MergedLog
 pub mod Rows
+pub mod PathOrder
+pub mod TreePaths
+pub mod NextNode
+pub mod Placing
+pub mod Preorder
+pub mod FewNodes
+pub mod Gathering
+pub mod ChildWith

@@ -1,2 +1,4 @@
 pub mod Merging
 pub mod Rows
+pub mod Paths
+pub mod RecordTree

@@ -1,5 +1,5 @@
 -- The log that the pieces of a run become, where the run has no unclosed path.
-use Rattle.std.specs.Prelude.{ℕ, ◌≡◌, ◌≤◌, true, List, [], map}
+use Rattle.std.specs.Prelude.{ℕ, ◌<◌, ◌≡◌, ◌≤◌, ◌++◌, true, List, [], map}
 use Rattle.std.specs.List.{AllByRecursion}
 use Rattle.list_laws.specs.Sets.{same_list, times}
 use Rattle.mill_model.specs.Log.{Task, recorded, names_settled, IsComplete}
@@ -27,3 +27,9 @@ NamesSettledPaths log = AllByRecursion (λ entry. names_settled log entry.closin
 -- no path has two records
 abbrev pub IsRecordedOnce : List Entry → Type 0
 IsRecordedOnce log = (path : List ℕ) → times same_list path (recorded log) ≤ 1
+
+-- each front of a path that is recorded is recorded too
+abbrev pub HasAllFronts : List Entry → Type 0
+HasAllFronts log =
+    (path rest : List ℕ) → 0 < times same_list (path ++ rest) (recorded log) →
+    0 < times same_list path (recorded log)

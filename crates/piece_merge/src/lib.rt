@@ -2,7 +2,9 @@
 #![tactic(auto)]
 
 mod pieces;
+mod record_tree;
 #[cfg(test)]
 mod tests;
+mod tree_walk;
 
 pub use pieces::merge;

@@ -1,19 +1,19 @@
-ghost use Rattle.std.specs.Prelude.{◌≡◌, ◌≤◌, true, length, All, IfOk};
+ghost use Rattle.std.specs.Prelude.{◌≡◌, ◌<◌, ◌≤◌, ◌^◌, true, length, All, IfOk};
 ghost use Rattle.std.specs.List.Sorted.{IsPermutation};
 ghost use Rattle.mill_model.specs.Conserved.{joined};
-ghost use Rattle.mill_model.specs.Log.{recorded};
 ghost use Rattle.refute_log.specs.Fits.{fits};
 ghost use Rattle.refute_log.specs.Logged.{IsLog};
-ghost use Rattle.refute_log.specs.Rising.{rises};
 ghost use Rattle.piece_merge.specs.Merging.{records_of, AreOfAWholeRun, IsCompleteLogOf};
-ghost use Rattle.piece_merge.specs.Merging.{NamesSettledPaths, IsRecordedOnce};
+ghost use Rattle.piece_merge.specs.Merging.{HasAllFronts, IsRecordedOnce, NamesSettledPaths};
+ghost use Rattle.piece_merge.specs.RecordTree.{IsRecordTree, present};
 
+use crate::record_tree::RecordTree;
 use mill_model::{Entry, MAX_NODES, OutOfMemory};
-use refute_log::{Log, Piece, compare};
+use refute_log::{Log, Piece};
 use std::alloc::Global;
 
 /// The log of the records of these pieces. It is complete, so it refutes each loss for which its
-/// records are sound. The records are moved, and the first piece's memory is used again.
+/// records are sound. The records are moved.
 pub fn merge(alloc: Global, orders: u16, pieces: Vec<Piece>) -> Result<Log, OutOfMemory>
     requires whole { AreOfAWholeRun (records_of pieces.items) }
     requires fit { All (λ entry. fits orders entry ≡ true) (joined (records_of pieces.items)) }
@@ -26,9 +26,11 @@ pub fn merge(alloc: Global, orders: u16, pieces: Vec<Piece>) -> Result<Log, OutO
         IsCompleteLogOf (records_of pieces.items) log.entries) }
     ensures named { IfOk result (λ log. NamesSettledPaths log.entries) }
 {
-    let mut entries = join(alloc, pieces)?;
-    sort_by_path(&mut entries);
-    Ok(Log::from_rising(orders, entries))
+    let entries = join(alloc, pieces)?;
+    let count = entries.len();
+    let tree = tree_of(alloc, entries)?;
+    let rising = tree.into_rising(alloc, count)?;
+    Ok(Log::from_rising(orders, rising))
 }
 
 // The records of all pieces, piece by piece.
@@ -46,11 +48,19 @@ fn join(alloc: Global, pieces: Vec<Piece>) -> Result<Vec<Entry>, OutOfMemory>
     Ok(entries)
 }
 
-// Puts records with different paths in the order of a log.
-fn sort_by_path(entries: &mut Vec<Entry>)
-    requires { IsRecordedOnce entries.old.items }
-    ensures records { IsPermutation entries.old.items entries.new.items }
-    ensures rise { rises (recorded entries.new.items) ≡ true }
+// The tree of the paths of these records.
+fn tree_of(alloc: Global, entries: Vec<Entry>) -> Result<RecordTree, OutOfMemory>
+    requires once { IsRecordedOnce entries.items }
+    requires fronts { HasAllFronts entries.items }
+    requires short { All (λ entry. length entry.path < 2 ^ 16) entries.items }
+    requires few { length entries.items ≤ MAX_NODES }
+    ensures tree { IfOk result (λ tree. IsRecordTree tree.links tree.records.items) }
+    ensures records { IfOk result (λ tree.
+        IsPermutation entries.items (present tree.records.items)) }
 {
-    entries.sort_unstable_by(|a, b| compare(a.path.numbers(), b.path.numbers()));
+    let mut tree = RecordTree::new(alloc)?;
+    for entry in entries {
+        tree.place(entry)?;
+    }
+    Ok(tree)
 }

@@ -1,5 +1,5 @@
--- The text of a log grows record by record, and is read back as the same log.
-use Rattle.std.proofs.Common.{ℕ, ◌+◌, ◌^◌, ◌<◌, ◌≡◌, true, List, [], ◌∷◌, ◌++◌, map}
+-- The text of a log by its parts, and that it is read back as the same log.
+use Rattle.std.proofs.Common.{ℕ, ◌+◌, ◌^◌, ◌<◌, ◌≡◌, true, List, [], ◌∷◌, ◌++◌, map, flat_map}
 use Rattle.std.proofs.Common.{length, take, get_or, codes, refl, subst, sym, ap, ◌∙◌, arith}
 use Rattle.std.proofs.Common.{append_assoc}
 use Rattle.std.proofs.lemmas.Bool.{and_parts, and_from}
@@ -16,49 +16,26 @@ use Rattle.refute_log.specs.Logged.{Logged, IsLog}
 use Rattle.refute_log.specs.Text.{record_line, first_line, log_lines, log_text, IsLogText}
 use Rattle.refute_log.proofs.RecordLines.{lacks-record, lacks-first_line}
 
-records-append : (es fs : List Entry)
-    → map record_line (es ++ fs) ≡ map record_line es ++ map record_line fs
-records-append [] fs = refl
-records-append (e ∷ es) fs = ap (λ ls. record_line e ∷ ls) (records-append es fs)
+-- the lines of records are put in one behind the other
+text-records : (es : List Entry)
+    → text_of (map record_line es) ≡ flat_map (λ e. record_line e ++ 10 ∷ []) es
+text-records [] = refl
+text-records (e ∷ es) =
+    ap (λ rest. record_line e ++ 10 ∷ rest) (text-records es)
+    ∙ sym (append_assoc (record_line e) (10 ∷ [])
+    (flat_map (λ e. record_line e ++ 10 ∷ []) es))
 
-module _ (start : List ℕ) (stated : ℕ) where
-  -- the first line is printed, part by part
-  pub first-more : (one two three : List ℕ) → one ≡ start ++ codes "log 1 "
-      → two ≡ one ++ decimal stated → three ≡ two ++ 10 ∷ []
-      → three ≡ start ++ text_of (log_lines stated [])
-  first-more one two three a b c = rw (c, b, a) (grouped (codes "log 1 ") (decimal stated))
-    where
-      grouped : (word number : List ℕ)
-          → ((start ++ word) ++ number) ++ 10 ∷ [] ≡ start ++ ((word ++ number) ++ 10 ∷ [])
-      grouped word number = simp append_assoc
-
-  -- one more record is printed
-  pub record-more : (es : List Entry) (i : ℕ) (e : Entry) (before after : List ℕ)
-      → i < length es → e ≡ get_or es i e
-      → before ≡ start ++ text_of (log_lines stated (take i es))
-      → after ≡ before ++ (record_line e ++ 10 ∷ [])
-      → after ≡ start ++ text_of (log_lines stated (take (i + 1) es))
-  record-more es i e before after l is b a =
-      let t : take (i + 1) es ≡ take i es ++ e ∷ [] =
-      take_more es i e l ∙ ap (λ x. take i es ++ x ∷ []) (sym is) in
-      let longer : log_lines stated (take (i + 1) es)
-      ≡ log_lines stated (take i es) ++ record_line e ∷ [] =
-      ap (log_lines stated) t
-      ∙ ap (λ ls. first_line stated ∷ ls) (records-append (take i es) (e ∷ [])) in
-      a ∙ ap (λ text. text ++ text_of (record_line e ∷ [])) b
-      ∙ append_assoc start (text_of (log_lines stated (take i es))) (text_of (record_line e ∷ []))
-      ∙ ap (λ text. start ++ text)
-      (sym (text_of-append (log_lines stated (take i es)) (record_line e ∷ [])))
-      ∙ ap (λ ls. start ++ text_of ls) (sym longer)
+-- a log's lines are put in as its first line and those of its records
+pub log-parts : (es given : List Entry) → given ≡ es → text_of (log_lines (length es) es)
+    ≡ (codes "log 1 " ++ decimal (length given))
+    ++ (10 ∷ [] ++ flat_map (λ e. record_line e ++ 10 ∷ []) given)
+log-parts es given same =
+    rw same (ap (λ rest. (codes "log 1 " ++ decimal (length es)) ++ 10 ∷ rest) (text-records es))
 
 -- `end` closes the text
-pub end-more : (log : Logged) (start before after : List ℕ) → start ≡ []
-    → before ≡ start ++ text_of (log_lines (length log.entries) log.entries)
-    → after ≡ before ++ codes "end\n" → after ≡ log_text log
-end-more log start before after s b a =
-    a ∙ ap (λ text. text ++ codes "end\n")
-    (b ∙ ap (λ text. text ++ text_of (log_lines (length log.entries) log.entries)) s)
-    ∙ sym (text_of-append (log_lines (length log.entries) log.entries) (codes "end" ∷ []))
+pub log-and-end : (log : Logged) → log_text log
+    ≡ text_of (log_lines (length log.entries) log.entries) ++ codes "end\n"
+log-and-end log = text_of-append (log_lines (length log.entries) log.entries) (codes "end" ∷ [])
 
 lacks-records : (n : ℕ) (es : List Entry) → n < 2 ^ 16 → list_all (fits n) es ≡ true
     → list_all (lacks 10) (map record_line es) ≡ true

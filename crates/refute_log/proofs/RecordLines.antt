@@ -151,27 +151,22 @@ record-parts entry =
     ∙ ap (λ l. l ++ flat_map (λ w. 32 ∷ w) (closing_words entry.closing))
     (spaced-path entry.path))
 
--- a record is printed part by part
-pub printed-record : (entry : Entry) (letter : ℕ) (before one two three four five six : List ℕ)
-    → letter_of entry.closing ≡ letter ∷ [] → one ≡ before ++ letter ∷ [] → two ≡ one ++ 32 ∷ []
-    → three ≡ two ++ decimal (length entry.path)
-    → four ≡ three ++ flat_map (λ g. 32 ∷ ordinal g) entry.path
-    → five ≡ four ++ flat_map (λ w. 32 ∷ w) (closing_words entry.closing)
-    → six ≡ five ++ 10 ∷ [] → six ≡ before ++ (record_line entry ++ 10 ∷ [])
-printed-record entry letter before one two three four five six l a b c d e f =
-    let path = flat_map (λ g. 32 ∷ ordinal g) entry.path in
+-- a record's line is put in as its letter with the length of the path, the path, and the rest
+pub put-parts : (entry : Entry) (letter path : List ℕ)
+    → letter ≡ letter_of entry.closing ++ 32 ∷ [] → path ≡ entry.path
+    → record_line entry ++ 10 ∷ [] ≡ (letter ++ decimal (length path))
+    ++ (flat_map (λ g. 32 ∷ ordinal g) path
+    ++ (flat_map (λ w. 32 ∷ w) (closing_words entry.closing) ++ 10 ∷ []))
+put-parts entry letter path l p =
     let closing = flat_map (λ w. 32 ∷ w) (closing_words entry.closing) in
-    let line : record_line entry
-    ≡ (letter ∷ []) ++ (32 ∷ decimal (length entry.path) ++ (path ++ closing)) =
-    record-parts entry
-    ∙ ap (λ x. x ++ (32 ∷ decimal (length entry.path) ++ (path ++ closing))) l in
-    rw (f, e, d, c, b, a, line) (grouped before (letter ∷ []) (decimal (length entry.path)) path
-    closing)
+    ap (λ line. line ++ 10 ∷ []) (record-parts entry)
+    ∙ rw (l, p) (grouped (letter_of entry.closing) (decimal (length entry.path))
+    (flat_map (λ g. 32 ∷ ordinal g) entry.path) closing)
   where
-    grouped : (before letter number path closing : List ℕ)
-        → (((((before ++ letter) ++ 32 ∷ []) ++ number) ++ path) ++ closing) ++ 10 ∷ []
-        ≡ before ++ ((letter ++ (32 ∷ number ++ (path ++ closing))) ++ 10 ∷ [])
-    grouped before letter number path closing = simp append_assoc
+    grouped : (letter number path closing : List ℕ)
+        → (letter ++ (32 ∷ number ++ (path ++ closing))) ++ 10 ∷ []
+        ≡ ((letter ++ 32 ∷ []) ++ number) ++ (path ++ (closing ++ 10 ∷ []))
+    grouped letter number path closing = simp append_assoc
 
 -- what stands behind the first two words of a first line
 pub count-behind : (line : List ℕ) (rest : List (List ℕ)) (count : ℕ) → count < 2 ^ 64

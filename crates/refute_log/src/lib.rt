@@ -17,5 +17,5 @@ pub use log::Log;
 pub use mill_model::Entry;
 pub use paths::compare;
 pub use piece::{Piece, Run};
-pub use print::{print_log, push_log};
+pub use print::{print_log, put_log};
 pub use read::{parse_log, read_log};

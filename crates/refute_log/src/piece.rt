@@ -1,3 +1,4 @@
+//! The records of one worker, and the run that workers leave.
 ghost use Rattle.std.specs.Prelude.{◌≡◌, ◌-◌, ◌≤◌, ◌++◌, ◌∷◌, [], true, length, OnErr, OnOk};
 ghost use Rattle.refute_log.specs.Fits.{fits};
 

@@ -1,3 +1,4 @@
+//! The text of a log, read line by line, with the first line that is wrong.
 ghost use Rattle.std.specs.Prelude.{◌≡◌, ◌≢◌, ◌<◌, ◌≤◌, ◌+◌, ◌^◌, ◌∷◌, ◌++◌, [], length, true};
 ghost use Rattle.std.specs.Prelude.{IfSome, IfNone, Ok, Err, ℕ};
 ghost use Rattle.line_text.specs.Lines.{text_lines};

@@ -1,3 +1,4 @@
+//! The line of one record, read.
 ghost use Rattle.std.specs.Prelude.{◌≡◌, ◌≢◌, ◌<◌, ◌≤◌, ◌++◌, true, IfOk, IfSome, IfNone, List, ℕ};
 ghost use Rattle.line_text.specs.Words.{line_words, BeginsWith};
 ghost use Rattle.mill_model.specs.declared.closing.Entry.{Entry};

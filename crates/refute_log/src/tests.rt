@@ -1,3 +1,5 @@
+//! What no clause says of a log's text.
+
 use crate::{LogTextError, compare, parse_log, print_log, read_log};
 use line_text::Lines;
 use std::cmp::Ordering;

@@ -2,8 +2,8 @@
 
 use mill_model::Instance;
 
-// What a load loses: the least size that holds it, less the load.
-fn load_loss(sizes: &[u32], load: u32) -> Option<u64> {
+/// What a load loses: the least size that holds it, less the load.
+pub fn load_loss(sizes: &[u32], load: u32) -> Option<u64> {
     if load == 0 {
         return Some(0);
     }

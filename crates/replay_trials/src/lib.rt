@@ -1,5 +1,6 @@
 //! Trials of replays: what they leave beside a plain reading of the machine, every log beside the
-//! checker and a search through all plans, and small budgets. There is nothing here but tests.
+//! checker and a search through all plans, and small budgets; and of workers that run in threads.
+//! There is nothing here but tests.
 #![tactic(auto)]
 
 #[cfg(test)]
@@ -14,6 +15,8 @@ mod machine;
 mod plain_worker;
 #[cfg(test)]
 mod replays;
+#[cfg(test)]
+mod running;
 #[cfg(test)]
 mod schedules;
 #[cfg(test)]

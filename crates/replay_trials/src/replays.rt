@@ -8,9 +8,7 @@ use crate::machine::Machine;
 use crate::schedules::Draws;
 use crate::setting::Setting;
 use core_replay::replay;
-use log_checker::{LogVerdict, check_log};
 use mill_model::{Limits, OutOfMemory};
-use piece_merge::merge;
 use std::alloc::Global;
 use std::test::Fail;
 
@@ -48,7 +46,6 @@ fn replayed(
     };
     let machine = Machine::left_by(alloc, setting, limits, start.loss, schedule)?;
     let Setting {
-        instance,
         ranked,
         charges,
         ..
@@ -60,12 +57,7 @@ fn replayed(
         records = records.saturating_add(piece.entries().len() as u64);
     }
     let loss = run.loss;
-    let mut refutes = None;
-    if run.unclosed.is_empty() {
-        let log = merge(alloc, ranked.len(), run.pieces)?;
-        let verdict = check_log(alloc, instance, charges, loss, &log)?;
-        refutes = Some(matches!(verdict, LogVerdict::Refutes));
-    }
+    let refutes = setting.refutes(alloc, run)?;
     Ok(Some(Seen {
         loss,
         records,

@@ -5,10 +5,14 @@ ghost use Rattle.mill_model.specs.Instance.{mill_of};
 ghost use Rattle.order_symmetry.specs.Ranked.{IsRankOf, orders_of};
 ghost use Rattle.search_step.specs.Honest.{IsKept};
 ghost use Rattle.search_step.specs.Serving.{IsPathOf};
+ghost use Rattle.replay_trials.specs.SomeRun.{IsSomeRun};
 
+use log_checker::{LogVerdict, check_log};
 use loss_table::loss_charges;
 use mill_model::{Charges, Instance, OutOfMemory, Path, Start};
 use order_symmetry::Ranked;
+use piece_merge::merge;
+use refute_log::Run;
 use split_tree::NodeState;
 use std::alloc::Global;
 
@@ -67,6 +71,18 @@ impl Setting {
         let plan = node.plan_of_leaf(alloc)?;
         let loss = node.groups_loss(&self.charges);
         Ok(Some(Start { plan, loss }))
+    }
+
+    /// Whether the log of a run's pieces refutes its loss; nothing where a path is left.
+    pub fn refutes(&self, alloc: Global, run: Run) -> Result<Option<bool>, OutOfMemory>
+        requires { IsSomeRun self.now.ranked self.now.charges run }
+    {
+        if !run.unclosed.is_empty() {
+            return Ok(None);
+        }
+        let log = merge(alloc, self.ranked.len(), run.pieces)?;
+        let verdict = check_log(alloc, &self.instance, &self.charges, run.loss, &log)?;
+        Ok(Some(matches!(verdict, LogVerdict::Refutes)))
     }
 }
 

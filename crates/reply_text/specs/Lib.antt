@@ -1,4 +1,3 @@
-pub mod Told
 pub mod Refusal
 pub mod Stop
 pub mod Judgement

@@ -1,9 +1,13 @@
-ghost use Rattle.std.specs.Prelude.{◌≡◌, ◌++◌, OnOk};
-ghost use Rattle.reply_text.specs.Judgement.{is_accepted, rejected_path, words_of_judgement};
+//! What is said of an answer to an instance, and the line that says so.
+ghost use Rattle.std.specs.Prelude.{◌≡◌, ◌+◌, ◌++◌, ◌∷◌, [], decimal, flat_map, length};
+ghost use Rattle.mill_io.specs.Blockwise.{PutsText};
+ghost use Rattle.reply_text.specs.Judgement.{is_accepted, number_of, words_of_judgement};
+ghost use Rattle.line_text.specs.Numbers.{ordinal};
 
-use crate::line::{push_both, push_named};
-use line_text::push_ordinals;
-use mill_model::{OutOfMemory, Path};
+use crate::line::put_both;
+use line_text::{put_named, put_ordinals};
+use mill_io::{Block, Failed, Sink};
+use mill_model::Path;
 
 /// What is said of an answer to an instance. Slabs, orders and groups are counted from 0.
 #[derive(Debug, Drop)]
@@ -41,59 +45,118 @@ impl Judgement {
         )
     }
 
-    /// Appends the words that the program writes.
-    pub fn push_words(&self, text: &mut Vec<u8>) -> Result<(), OutOfMemory>
-        ensures { OnOk result (text.new.items ≡ text.old.items ++ words_of_judgement self.now) }
+    /// Puts the line that the program writes in.
+    pub fn put_line<K: Sink>(&self, sink: &mut K, block: &mut Block) -> Result<(), Failed>
+        ensures { PutsText K.written K.held K.faults sink.old sink.new block.old block.new
+            (words_of_judgement self.now ++ 10 ∷ []) result }
+    {
+        self.put_words(sink, block)?;
+        block.put(sink, b"\n")
+    }
+
+    // Puts its words in.
+    fn put_words<K: Sink>(&self, sink: &mut K, block: &mut Block) -> Result<(), Failed>
+        ensures { PutsText K.written K.held K.faults sink.old sink.new block.old block.new
+            (words_of_judgement self.now) result }
     {
         match self {
-            Judgement::Legal { loss } => push_named(text, b"legal loss ", *loss),
-            Judgement::Verified { loss } => push_named(text, b"verified loss ", *loss),
+            Judgement::Legal { loss } => put_named(sink, block, b"legal loss ", *loss),
+            Judgement::Verified { loss } => put_named(sink, block, b"verified loss ", *loss),
             Judgement::Confirmed { order } => {
-                push_named(text, b"confirmed infeasible order ", *order as u64 + 1)
+                put_named(
+                    sink,
+                    block,
+                    b"confirmed infeasible order ",
+                    *order as u64 + 1,
+                )
             }
             Judgement::Heavy { slab, load } => {
-                push_both(
-                    text,
+                put_counted(
+                    sink,
+                    block,
                     b"rejected heavy slab ",
-                    *slab as u64 + 1,
+                    *slab,
                     b" load ",
                     *load,
                 )
             }
             Judgement::Colourful { slab, colours } => {
-                let (slab, colours) = (*slab as u64 + 1, *colours as u64);
-                push_both(
-                    text,
+                let count = *colours as u64;
+                put_counted(
+                    sink,
+                    block,
                     b"rejected colourful slab ",
-                    slab,
+                    *slab,
                     b" colours ",
-                    colours,
+                    count,
                 )
             }
             Judgement::LossDiffers { stated, found } => {
-                push_both(text, b"rejected loss stated ", *stated, b" found ", *found)
+                put_both(
+                    sink,
+                    block,
+                    b"rejected loss stated ",
+                    *stated,
+                    b" found ",
+                    *found,
+                )
             }
             Judgement::OrderDiffers { stated, found } => {
-                let first = found.map_or(0, |order| order as u64 + 1);
-                let stated = *stated as u64 + 1;
-                push_both(text, b"rejected order stated ", stated, b" found ", first)
+                let first = number_of(*found);
+                put_counted(
+                    sink,
+                    block,
+                    b"rejected order stated ",
+                    *stated,
+                    b" found ",
+                    first,
+                )
             }
-            Judgement::Missing { path } => push_path(text, b"missing", path),
-            Judgement::Stray { path } => push_path(text, b"stray", path),
-            Judgement::Unsound { path } => push_path(text, b"unsound", path),
+            Judgement::Missing { path } => put_path(sink, block, b"rejected missing ", path),
+            Judgement::Stray { path } => put_path(sink, block, b"rejected stray ", path),
+            Judgement::Unsound { path } => put_path(sink, block, b"rejected unsound ", path),
         }
     }
 }
 
-// Appends what is written of a path of a log, and what is wrong there.
-fn push_path(text: &mut Vec<u8>, fault: &[u8], path: &Path) -> Result<(), OutOfMemory>
-    ensures { OnOk result (text.new.items
-        ≡ text.old.items ++ rejected_path fault.now path.now) }
+// The number of an order that is counted from 1, or 0 where there is none.
+fn number_of(order: Option<u16>) -> u64
+    ensures { result ≡ number_of order }
+{
+    match order {
+        Some(order) => order as u64 + 1,
+        None => 0,
+    }
+}
+
+// Puts words and a number in, twice; the first is of a thing that is counted from 0, and is put in
+// as counted from 1.
+fn put_counted<K: Sink>(
+    sink: &mut K,
+    block: &mut Block,
+    name: &[u8],
+    thing: u16,
+    other: &[u8],
+    count: u64,
+) -> Result<(), Failed>
+    ensures { PutsText K.written K.held K.faults sink.old sink.new block.old block.new
+        (name.now ++ decimal (thing + 1) ++ other.now ++ decimal count) result }
+{
+    put_both(sink, block, name, thing as u64 + 1, other, count)
+}
+
+// Puts words, the length of a path of a log and the path in.
+fn put_path<K: Sink>(
+    sink: &mut K,
+    block: &mut Block,
+    name: &[u8],
+    path: &Path,
+) -> Result<(), Failed>
+    ensures { PutsText K.written K.held K.faults sink.old sink.new block.old block.new
+        (name.now ++ decimal (length path.now) ++ flat_map (λ group. 32 ∷ ordinal group) path.now)
+        result }
 {
     let numbers = path.numbers();
-    text.extend_from_slice(b"rejected ")?;
-    text.extend_from_slice(fault)?;
-    push_named(text, b" ", numbers.len() as u64)?;
-    push_ordinals(text, numbers)?;
-    Ok(())
+    put_named(sink, block, name, numbers.len() as u64)?;
+    put_ordinals(sink, block, numbers)
 }

@@ -7,7 +7,6 @@ mod laws;
 mod line;
 mod outcome;
 mod refusal;
-mod reply;
 mod solution;
 mod status;
 mod stop;
@@ -17,7 +16,6 @@ pub use judgement::Judgement;
 pub use laws::status_numbers;
 pub use outcome::Outcome;
 pub use refusal::Refusal;
-pub use reply::Reply;
 pub use solution::Solution;
 pub use status::{
     ACCEPTED, FEASIBLE, INFEASIBLE, OPTIMAL, OUT_OF_MEMORY, READ_FAULT, REFUSED, REJECTED,

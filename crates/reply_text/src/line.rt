@@ -1,36 +1,21 @@
-ghost use Rattle.std.specs.Prelude.{◌≡◌, ◌++◌, decimal, OnOk};
+ghost use Rattle.std.specs.Prelude.{◌++◌, decimal};
+ghost use Rattle.mill_io.specs.Blockwise.{PutsText};
 
-use line_text::push_number;
-use mill_model::OutOfMemory;
+use line_text::put_named;
+use mill_io::{Block, Failed, Sink};
 
-/// Appends words.
-pub fn push_name(text: &mut Vec<u8>, name: &[u8]) -> Result<(), OutOfMemory>
-    ensures { OnOk result (text.new.items ≡ text.old.items ++ name.now) }
-{
-    text.extend_from_slice(name)?;
-    Ok(())
-}
-
-/// Appends words and the number behind them.
-pub fn push_named(text: &mut Vec<u8>, name: &[u8], number: u64) -> Result<(), OutOfMemory>
-    ensures { OnOk result (text.new.items ≡ text.old.items ++ (name.now ++ decimal number)) }
-{
-    text.extend_from_slice(name)?;
-    push_number(text, number)?;
-    Ok(())
-}
-
-/// Appends words and a number, twice.
-pub fn push_both(
-    text: &mut Vec<u8>,
+/// Puts words and a number in, twice.
+pub fn put_both<K: Sink>(
+    sink: &mut K,
+    block: &mut Block,
     name: &[u8],
     number: u64,
     other: &[u8],
     count: u64,
-) -> Result<(), OutOfMemory>
-    ensures { OnOk result (text.new.items
-        ≡ text.old.items ++ (name.now ++ decimal number ++ other.now ++ decimal count)) }
+) -> Result<(), Failed>
+    ensures { PutsText K.written K.held K.faults sink.old sink.new block.old block.new
+        (name.now ++ decimal number ++ other.now ++ decimal count) result }
 {
-    push_named(text, name, number)?;
-    push_named(text, other, count)
+    put_named(sink, block, name, number)?;
+    put_named(sink, block, other, count)
 }

@@ -1,14 +1,18 @@
-ghost use Rattle.std.specs.Prelude.{◌≡◌, IfOk};
+//! What a job is answered: its status and its text.
+ghost use Rattle.std.specs.Prelude.{◌≡◌, OnOk, OnErr};
+ghost use Rattle.std.specs.Io.KnownBytes.{Appends};
+ghost use Rattle.mill_io.specs.Blockwise.{PutsText};
+ghost use Rattle.mill_io.specs.Bytes.{AppendsFront, AppendsToBoth};
+ghost use Rattle.mill_io.specs.Causes.{HasCause};
 ghost use Rattle.reply_text.specs.Outcome.{run_of, status_of, status_of_answer, text_of, IsToTell};
 
 use crate::{
-    ACCEPTED, FEASIBLE, INFEASIBLE, Judgement, OPTIMAL, REFUSED, REJECTED, Refusal, Reply,
-    Solution, Summary,
+    ACCEPTED, FEASIBLE, INFEASIBLE, Judgement, OPTIMAL, REFUSED, REJECTED, Refusal, Solution,
+    Summary,
 };
-use answer_text::{Answer, print_answer};
-use mill_model::OutOfMemory;
+use answer_text::{Answer, put_answer};
+use mill_io::{Block, Failed, Sink};
 use refute_log::Run;
-use std::alloc::Global;
 
 /// What a job is answered.
 #[derive(Debug, Drop)]
@@ -25,8 +29,8 @@ pub enum Outcome {
 }
 
 impl Outcome {
-    // The status that the program ends with.
-    fn status(&self) -> u8
+    /// The status that the program ends with where the text is written whole.
+    pub fn status(&self) -> u8
         ensures { result ≡ status_of self.now }
     {
         match self {
@@ -38,41 +42,33 @@ impl Outcome {
         }
     }
 
-    // What the program writes.
-    fn text(&self, alloc: Global) -> Result<Vec<u8>, OutOfMemory>
+    /// Writes the text in blocks, so that it is never held whole. It takes no memory.
+    pub fn write<K: Sink>(&self, sink: &mut K) -> Result<(), Failed>
         requires { IsToTell self.now }
-        ensures { IfOk result (λ text. text.items ≡ text_of self.now) }
+        ensures ok { OnOk result (Appends (K.written sink.old) (K.written sink.new)
+            (text_of self.now)) }
+        ensures err { OnErr result (AppendsFront (K.written sink.old) (K.written sink.new)
+            (text_of self.now)) }
+        ensures held { AppendsToBoth (K.written sink.old) (K.written sink.new)
+            (K.held sink.old) (K.held sink.new) }
+        ensures cause { HasCause (K.faults sink.old) (K.faults sink.new) result }
     {
-        match self {
-            Outcome::Refused(why) => {
-                let mut text = Vec::new(alloc);
-                why.push_words(&mut text)?;
-                text.push(b'\n')?;
-                Ok(text)
-            }
-            Outcome::Solved(solution) => print_answer(alloc, &solution.answer),
-            Outcome::Judged(judgement) => {
-                let mut text = Vec::new(alloc);
-                judgement.push_words(&mut text)?;
-                text.push(b'\n')?;
-                Ok(text)
-            }
-            Outcome::Drilled(summary) => {
-                let mut text = Vec::new(alloc);
-                summary.push_lines(&mut text)?;
-                Ok(text)
-            }
-        }
+        let mut block = Block::new();
+        self.put_text(sink, &mut block)?;
+        block.finish(sink)
     }
 
-    /// Makes the outcome ready to be written: nothing that comes after takes memory.
-    pub fn reply(&self, alloc: Global) -> Result<Reply, OutOfMemory>
-        requires { IsToTell self.now }
-        ensures status { IfOk result (λ reply. reply.status ≡ status_of self.now) }
-        ensures text { IfOk result (λ reply. reply.text ≡ text_of self.now) }
+    // Puts the text in.
+    fn put_text<K: Sink>(&self, sink: &mut K, block: &mut Block) -> Result<(), Failed>
+        ensures { PutsText K.written K.held K.faults sink.old sink.new block.old block.new
+            (text_of self.now) result }
     {
-        let text = self.text(alloc)?;
-        Ok(Reply::new(self.status(), text))
+        match self {
+            Outcome::Refused(why) => why.put_line(sink, block),
+            Outcome::Solved(solution) => put_answer(sink, block, &solution.answer),
+            Outcome::Judged(judgement) => judgement.put_line(sink, block),
+            Outcome::Drilled(summary) => summary.put_lines(sink, block),
+        }
     }
 
     /// The run behind an answer or a summary, where one is handed out.

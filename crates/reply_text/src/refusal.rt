@@ -1,11 +1,14 @@
-ghost use Rattle.std.specs.Prelude.{◌≡◌, ◌++◌, OnOk};
+//! Why an input is refused, and the line that says so.
+ghost use Rattle.std.specs.Prelude.{◌++◌, ◌∷◌, []};
+ghost use Rattle.mill_io.specs.Blockwise.{PutsText};
 ghost use Rattle.reply_text.specs.Refusal.{words_of_refusal};
 ghost use Rattle.reply_text.specs.declared.refusal.Refusal.TheVariants.{Instance, Answer};
 
-use crate::line::{push_both, push_name, push_named};
+use crate::line::put_both;
 use answer_text::AnswerTextError;
 use instance_text::InstanceError;
-use mill_model::OutOfMemory;
+use line_text::put_named;
+use mill_io::{Block, Failed, Sink};
 
 /// Why an input is refused. What a reader says of its text is nested; want of memory says nothing
 /// of a text, and is no reason. Bytes are counted from 0.
@@ -27,58 +30,77 @@ pub enum Refusal {
 }
 
 impl Refusal {
-    /// Appends the words that the program writes.
-    pub fn push_words(self, text: &mut Vec<u8>) -> Result<(), OutOfMemory>
-        ensures { OnOk result (text.new.items ≡ text.old.items ++ words_of_refusal self) }
+    /// Puts the line that the program writes in.
+    pub fn put_line<K: Sink>(self, sink: &mut K, block: &mut Block) -> Result<(), Failed>
+        ensures { PutsText K.written K.held K.faults sink.old sink.new block.old block.new
+            (words_of_refusal self ++ 10 ∷ []) result }
+    {
+        self.put_words(sink, block)?;
+        block.put(sink, b"\n")
+    }
+
+    // Puts its words in.
+    fn put_words<K: Sink>(self, sink: &mut K, block: &mut Block) -> Result<(), Failed>
+        ensures { PutsText K.written K.held K.faults sink.old sink.new block.old block.new
+            (words_of_refusal self) result }
     {
         match self {
-            Refusal::TooLong { limit } => push_named(text, b"refused long ", limit as u64),
-            Refusal::Instance(why) => push_instance(text, why),
-            Refusal::Rest { at } => push_named(text, b"refused rest byte ", at as u64),
-            Refusal::Answer(why) => push_answer(text, why),
-            Refusal::AnswerKind => push_name(text, b"refused answer kind"),
-            Refusal::Schedule { token } => push_named(text, b"refused schedule token ", token),
+            Refusal::TooLong { limit } => put_named(sink, block, b"refused long ", limit as u64),
+            Refusal::Instance(why) => put_instance(sink, block, why),
+            Refusal::Rest { at } => put_named(sink, block, b"refused rest byte ", at as u64),
+            Refusal::Answer(why) => put_answer(sink, block, why),
+            Refusal::AnswerKind => block.put(sink, b"refused answer kind"),
+            Refusal::Schedule { token } => {
+                put_named(sink, block, b"refused schedule token ", token)
+            }
         }
     }
 }
 
-// Appends what is written where no instance is in front.
-fn push_instance(text: &mut Vec<u8>, why: InstanceError) -> Result<(), OutOfMemory>
-    ensures { OnOk result (text.new.items ≡ text.old.items ++ words_of_refusal (Instance why)) }
+// Puts in what is written where no instance is in front.
+fn put_instance<K: Sink>(sink: &mut K, block: &mut Block, why: InstanceError) -> Result<(), Failed>
+    ensures { PutsText K.written K.held K.faults sink.old sink.new block.old block.new
+        (words_of_refusal (Instance why)) result }
 {
     match why {
-        InstanceError::BadByte { at } => push_named(text, b"refused instance byte ", at as u64),
+        InstanceError::BadByte { at } => {
+            put_named(sink, block, b"refused instance byte ", at as u64)
+        }
         InstanceError::Short { token } => {
-            push_named(text, b"refused instance short token ", token as u64)
+            put_named(sink, block, b"refused instance short token ", token as u64)
         }
         InstanceError::OutOfRange { what, token } => {
-            push_name(text, b"refused instance range ")?;
-            push_name(text, what.name().as_bytes())?;
-            push_named(text, b" token ", token as u64)
+            block.put(sink, b"refused instance range ")?;
+            block.put(sink, what.name().as_bytes())?;
+            put_named(sink, block, b" token ", token as u64)
         }
-        InstanceError::OutOfMemory => push_name(text, b"refused instance memory"),
+        InstanceError::OutOfMemory => block.put(sink, b"refused instance memory"),
     }
 }
 
-// Appends what is written where no answer is behind the instance.
-fn push_answer(text: &mut Vec<u8>, why: AnswerTextError) -> Result<(), OutOfMemory>
-    ensures { OnOk result (text.new.items ≡ text.old.items ++ words_of_refusal (Answer why)) }
+// Puts in what is written where no answer is behind the instance.
+fn put_answer<K: Sink>(sink: &mut K, block: &mut Block, why: AnswerTextError) -> Result<(), Failed>
+    ensures { PutsText K.written K.held K.faults sink.old sink.new block.old block.new
+        (words_of_refusal (Answer why)) result }
 {
     match why {
-        AnswerTextError::BadLine { line } => push_named(text, b"refused answer line ", line),
+        AnswerTextError::BadLine { line } => {
+            put_named(sink, block, b"refused answer line ", line)
+        }
         AnswerTextError::NotRising { line } => {
-            push_named(text, b"refused answer line ", line)?;
-            push_name(text, b" not rising")
+            put_named(sink, block, b"refused answer line ", line)?;
+            block.put(sink, b" not rising")
         }
         AnswerTextError::CountDiffers { stated, found } => {
-            push_both(
-                text,
+            put_both(
+                sink,
+                block,
                 b"refused answer count stated ",
                 stated,
                 b" found ",
                 found,
             )
         }
-        AnswerTextError::OutOfMemory => push_name(text, b"refused answer memory"),
+        AnswerTextError::OutOfMemory => block.put(sink, b"refused answer memory"),
     }
 }

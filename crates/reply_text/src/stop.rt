@@ -1,3 +1,5 @@
+//! Why a command has nothing to say, and how the errors of readers become that.
+
 use crate::Refusal;
 use answer_text::AnswerTextError;
 use instance_text::InstanceError;

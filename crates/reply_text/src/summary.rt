@@ -1,11 +1,14 @@
-ghost use Rattle.std.specs.Prelude.{◌≡◌, ◌++◌, ◌∷◌, [], OnOk};
+//! What came of the search of an instance that was made, and its lines.
+ghost use Rattle.std.specs.Prelude.{◌≡◌, ◌++◌, ◌∷◌, []};
+ghost use Rattle.mill_io.specs.Blockwise.{PutsText};
 ghost use Rattle.line_text.specs.Lines.{text_of};
 ghost use Rattle.reply_text.specs.Summary.{first_line, lines_of_ending, lines_of_summary};
 ghost use Rattle.reply_text.specs.Summary.{run_behind, status_of_ending};
 
-use crate::line::{push_both, push_name, push_named};
+use crate::line::put_both;
 use crate::{FEASIBLE, OPTIMAL};
-use mill_model::OutOfMemory;
+use line_text::put_named;
+use mill_io::{Block, Failed, Sink};
 use refute_log::Run;
 
 /// How the search of an instance ended, without the plan that it ended with.
@@ -49,42 +52,42 @@ impl Ending {
         }
     }
 
-    // Appends its lines.
-    fn push_lines(&self, text: &mut Vec<u8>) -> Result<(), OutOfMemory>
-        ensures { OnOk result (text.new.items
-            ≡ text.old.items ++ text_of (lines_of_ending self.now)) }
+    // Puts its lines in.
+    fn put_lines<K: Sink>(&self, sink: &mut K, block: &mut Block) -> Result<(), Failed>
+        ensures { PutsText K.written K.held K.faults sink.old sink.new block.old block.new
+            (text_of (lines_of_ending self.now)) result }
     {
         match self {
             Ending::Optimal { loss } => {
-                push_named(text, b"optimal\nloss ", *loss)?;
+                put_named(sink, block, b"optimal\nloss ", *loss)?;
+                block.put(sink, b"\nend\n")
             }
             Ending::Feasible { loss, spent, .. } => {
-                push_named(text, b"feasible\nloss ", *loss)?;
-                push_named(text, b"\nspent ", *spent)?;
+                put_both(sink, block, b"feasible\nloss ", *loss, b"\nspent ", *spent)?;
+                block.put(sink, b"\nend\n")
             }
         }
-        push_name(text, b"\nend\n")
     }
 }
 
 impl Summary {
-    /// Appends the lines that the program writes.
-    pub fn push_lines(&self, text: &mut Vec<u8>) -> Result<(), OutOfMemory>
-        ensures { OnOk result (text.new.items
-            ≡ text.old.items ++ text_of (lines_of_summary self.now)) }
+    /// Puts the lines that the program writes in.
+    pub fn put_lines<K: Sink>(&self, sink: &mut K, block: &mut Block) -> Result<(), Failed>
+        ensures { PutsText K.written K.held K.faults sink.old sink.new block.old block.new
+            (text_of (lines_of_summary self.now)) result }
     {
-        self.push_first(text)?;
-        self.ending.push_lines(text)
+        self.put_first(sink, block)?;
+        self.ending.put_lines(sink, block)
     }
 
-    // Appends its first line.
-    fn push_first(&self, text: &mut Vec<u8>) -> Result<(), OutOfMemory>
-        ensures { OnOk result (text.new.items
-            ≡ text.old.items ++ (first_line self.now ++ 10 ∷ [])) }
+    // Puts its first line in.
+    fn put_first<K: Sink>(&self, sink: &mut K, block: &mut Block) -> Result<(), Failed>
+        ensures { PutsText K.written K.held K.faults sink.old sink.new block.old block.new
+            (first_line self.now ++ 10 ∷ []) result }
     {
         let (seed, orders) = (u64::from(self.seed), u64::from(self.orders));
-        push_both(text, b"drill seed ", seed, b" orders ", orders)?;
-        push_named(text, b" weight ", self.weight)?;
-        push_name(text, b"\n")
+        put_both(sink, block, b"drill seed ", seed, b" orders ", orders)?;
+        put_named(sink, block, b" weight ", self.weight)?;
+        block.put(sink, b"\n")
     }
 }

@@ -1,5 +1,5 @@
 -- Runs that can be gone on from: the promise of a run, and what goes on from a run more than once.
-use Rattle.std.proofs.Common.{ℕ, ◌≤◌, ◌<◌, ◌≡◌, ◌≢◌, List, [], ◌++◌, sym, ap, ◌∙◌, arith}
+use Rattle.std.proofs.Common.{ℕ, ◌≤◌, ◌<◌, ◌≢◌, List, [], ◌++◌, sym, ap, ◌∙◌, arith}
 use Rattle.std.proofs.Common.{append-nil, append_assoc}
 use Rattle.list_laws.proofs.Among.{each-append}
 use Rattle.mill_model.specs.Charges.{ChargeTable}

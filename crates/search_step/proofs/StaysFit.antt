@@ -1,7 +1,7 @@
 -- Each step keeps it so that a worker's records have the lengths and numbers that a record of a log
 -- may have. Only a closing adds a record: its verdict has the lengths, and the prices that it goes
 -- by are within the limits of a price.
-use Rattle.std.proofs.Common.{ℕ, ◌<◌, ◌≤◌, ◌≡◌, ◌≢◌, Bool, true, false, cond, List, [], ◌∷◌, ◌++◌}
+use Rattle.std.proofs.Common.{ℕ, ◌≤◌, ◌≡◌, ◌≢◌, Bool, true, false, cond, List, [], ◌∷◌, ◌++◌}
 use Rattle.std.proofs.Common.{length, Option, Some, None, refl, sym, subst, ℤ, All, inl, inr, arith}
 use Rattle.std.proofs.lemmas.Bool.{cases_lt}
 use Rattle.std.proofs.lemmas.List.{get_or_past}
@@ -23,7 +23,7 @@ use Rattle.refute_log.specs.Fits.{fits}
 use Rattle.split_tree.specs.Keys.{Key}
 use Rattle.nogood_store.specs.Entries.{Stored}
 use Rattle.search_step.specs.Moves.{closed, commits, drew, entry_of, exceeds, first_prices, found_at}
-use Rattle.search_step.specs.Moves.{has_lengths, is_leaf, last_of, loss_at, new_worker, rested}
+use Rattle.search_step.specs.Moves.{has_lengths, is_leaf, last_of, loss_at, rested}
 use Rattle.search_step.specs.Moves.{second_prices, stole, took, verdict, verdict_inner, verdict_leaf}
 use Rattle.search_step.specs.Moves.{verdict_open}
 use Rattle.search_step.specs.Parts.{Parts}

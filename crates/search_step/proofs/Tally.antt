@@ -1,6 +1,6 @@
 -- The account of one step.
 use Rattle.std.proofs.Common.{◌≡◌, ℕ, ◌+◌, List, [], ◌∷◌, ◌++◌, Some, None, option_to_list, refl}
-use Rattle.std.proofs.Common.{sym, ap, ◌∙◌, arith, append-nil}
+use Rattle.std.proofs.Common.{ap, ◌∙◌, arith, append-nil}
 use Rattle.list_laws.specs.Sets.{times, same_list}
 use Rattle.mill_model.specs.Log.{Task, recorded, split_children, left_open}
 use Rattle.mill_model.specs.declared.closing.Entry.{Entry}

@@ -137,7 +137,8 @@ verify-behind-prove =
     answered-behind (λ limits. IsProved limits (course_of limits))
     (λ limits problem solution is. is.told.reads_back) Verify verified_as
     (λ limits problem job bytes solution reads is.
-    verifies-proved limits problem (course_of limits) job bytes solution.answer solution.run reads is)
+    verifies-proved limits problem (course_of limits) job bytes solution.answer solution.run reads
+    is)
     verified-itself Prove (searched (λ limits. IsProved limits (course_of limits)))
 
 pub check-behind-prove : IsAnsweredBehind Prove Check checked_as

@@ -1,5 +1,5 @@
-//! Serves words: reads what they ask to be read, has it answered by a searcher, and writes the answer
-//! out. What `run` and `run_plain` promise is proved here, for each searcher.
+//! Serves words: reads what they ask to be read, has it answered by a searcher, and writes the
+//! answer out. What `run` and `run_plain` promise is proved here, for each searcher.
 ghost use Rattle.std.specs.Prelude.{◌≡◌, ◌≢◌, ◌++◌, ℕ, true, List, Err, None, IfOk};
 ghost use Rattle.std.specs.Prelude.{IfSome, IsErrOf, IsSome, OnOk};
 ghost use Rattle.std.specs.Io.KnownBytes.{Appends, IsAtEnd};
@@ -25,9 +25,7 @@ use crate::searcher::Searcher;
 use job_words::{Job, read_words, write_usage};
 use mill_io::{ReadError, Sink, Source, read_all};
 use refute_log::Run;
-use reply_text::{
-    OUT_OF_MEMORY, Outcome, READ_FAULT, Refusal, Reply, Stop, WRITE_FAULT, WRONG_WORDS,
-};
+use reply_text::{OUT_OF_MEMORY, Outcome, READ_FAULT, Refusal, Stop, WRITE_FAULT, WRONG_WORDS};
 use std::alloc::Global;
 
 // Why there is no outcome.
@@ -91,22 +89,23 @@ fn answered<V: Searcher>(
     }
 }
 
-// Writes a reply, and gives its status where that succeeds. It takes no memory.
-fn write_out<K: Sink>(sink: &mut K, reply: &Reply) -> u8
-    requires own { IsOwnStatus reply.now.status }
+// Writes an outcome, and gives its status where that succeeds. It takes no memory.
+fn write_out<K: Sink>(sink: &mut K, outcome: &Outcome) -> u8
+    requires told { IsToTell outcome.now }
+    requires own { IsOwnStatus (told.status_of outcome.now) }
     ensures known { IsStatus result }
-    ensures status { result ≢ WRITE_FAULT → result ≡ reply.now.status }
+    ensures status { result ≢ WRITE_FAULT → result ≡ told.status_of outcome.now }
     ensures whole { result ≢ WRITE_FAULT
-        → Appends (K.written sink.old) (K.written sink.new) reply.now.text }
+        → Appends (K.written sink.old) (K.written sink.new) (told.text_of outcome.now) }
     ensures kept { result ≢ WRITE_FAULT → K.faults sink.new ≡ K.faults sink.old }
     ensures front { result ≡ WRITE_FAULT
-        → AppendsFront (K.written sink.old) (K.written sink.new) reply.now.text }
+        → AppendsFront (K.written sink.old) (K.written sink.new) (told.text_of outcome.now) }
     ensures held { AppendsToBoth (K.written sink.old) (K.written sink.new)
         (K.held sink.old) (K.held sink.new) }
     ensures fault { result ≡ WRITE_FAULT → Rose (K.faults sink.old) (K.faults sink.new) }
 {
-    match reply.write(sink) {
-        Ok(()) => reply.status(),
+    match outcome.write(sink) {
+        Ok(()) => outcome.status(),
         Err(_) => WRITE_FAULT,
     }
 }
@@ -123,8 +122,8 @@ fn run_behind(outcome: Outcome, status: u8) -> Option<Run>
     }
 }
 
-/// Serves what the words ask for, gives the status that the program ends with, and hands out the run
-/// behind a feasible answer in `kept`. `run` says what the clauses mean.
+/// Serves what the words ask for, gives the status that the program ends with, and hands out the
+/// run behind a feasible answer in `kept`. `run` says what the clauses mean.
 pub fn serve_words<V: Searcher, S: Source, K: Sink>(
     searcher: &V,
     alloc: Global,
@@ -188,14 +187,11 @@ pub fn serve_words<V: Searcher, S: Source, K: Sink>(
         };
     };
     match outcome_of(searcher, alloc, job, source) {
-        Ok(outcome) => match outcome.reply(alloc) {
-            Ok(reply) => {
-                let status = write_out(sink, &reply);
-                *kept = run_behind(outcome, status);
-                status
-            }
-            Err(_) => OUT_OF_MEMORY,
-        },
+        Ok(outcome) => {
+            let status = write_out(sink, &outcome);
+            *kept = run_behind(outcome, status);
+            status
+        }
         Err(Failure::ReadFault) => READ_FAULT,
         Err(Failure::OutOfMemory) => OUT_OF_MEMORY,
     }

@@ -10,8 +10,8 @@ use std::test::Fail;
 // Three orders of three colours: four records refute each lesser loss than 4.
 const THREE_ORDERS: &str = "1 4\n3\n3\n1 1\n1 2\n2 3\n";
 
-// The status for words that need no threads and an input; what was kept before is let go. Other words
-// have a status here that no call ends with.
+// The status for words that need no threads and an input; what was kept before is let go. Other
+// words have a status here that no call ends with.
 fn status_of(
     alloc: Global,
     words: &str,

@@ -29,9 +29,9 @@ pub record IsBeginning (problem : Problem) (moves : ℕ) (beginning : Beginning)
   pub possible : IsPossibleStart (mill_of problem) (loss_charge problem.sizes) problem.orders moves
       beginning.start.plan
 
--- A run is that of a search by these limits, to its end: no path is lost or recorded twice, each
--- record is sound for what its plan loses, and thrifty for the start bound, each ticket is a record,
--- and a path is left only where tickets wanted.
+-- A run is that of a search by these limits, whose workers took this course, to its end: no path is
+-- lost or recorded twice, each record is sound for what its plan loses, and thrifty for the start
+-- bound, each ticket is a record, and a path is left only where tickets wanted.
 pub record HasSearched (limits : Limits) (course : Course) (problem : Problem) (run : Run)
     : Type 0 where
   pub conserved : IsConserved (loss_task problem) (records_of run) run.unclosed.items

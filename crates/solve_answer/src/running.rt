@@ -79,7 +79,8 @@ fn solution_of<R: Threads + Wait + Sync, G: Gate>(
         return Ok(infeasible(order));
     }
     let run = searched(rt, alloc, instance, limits, gate)?;
-    answer_of(alloc, instance, limits, run, with_log)
+    let solution = answer_of(alloc, instance, limits, run, with_log)?;
+    Ok(solution)
 }
 
 // The run that searches an instance's tree.

@@ -72,7 +72,8 @@ fn solution_of(
         return Ok(infeasible(order));
     }
     let run = searched(alloc, instance, limits, schedule)?;
-    answer_of(alloc, instance, limits, run, with_log)
+    let solution = answer_of(alloc, instance, limits, run, with_log)?;
+    Ok(solution)
 }
 
 // The run that searches an instance's tree.

@@ -9,7 +9,6 @@ use Rattle.job_words.specs.Words.{texts}
 use Rattle.reply_text.specs.declared.status.TheConstants.{WRITE_FAULT}
 use Rattle.slab_top.specs.Served.{WrongWords, Answered}
 use Rattle.slab_top.specs.Agree.{MayEndWith}
-use Rattle.slab_top.specs.Run.{IsOwnStatus}
 use Rattle.slab_top.proofs.Replying.{agree-status, outcome-own}
 use Rattle.slab_top.proofs.Rights.{right-agree, enough-served, ended-for, wrong-agree, unread-for}
 use Rattle.slab_top.proofs.Rights.{served-run, none-kept}
@@ -28,78 +27,78 @@ outcome_of-requires-clause-threads g c needs =
 
 pub write_out-status-requires : goal.write_out-status-requires
 write_out-status-requires g c = record {
-  own = subst IsOwnStatus (sym c.in-Ok-reply.ensures.status)
-      (outcome-own c.in-Ok-outcome_of.outcome);
+  told = c.in-Ok-outcome_of.ensures.told;
+  own = outcome-own c.in-Ok-outcome_of.outcome;
 }
 
 -- Words that ask for a job: the output that was written is right,
 
-pub returns-in-Ok-reply-clause-answered : goal.returns-in-Ok-reply-clause-answered
-returns-in-Ok-reply-clause-answered g c whole = (
+pub returns-in-Ok-clause-answered : goal.returns-in-Ok-clause-answered
+returns-in-Ok-clause-answered g c whole = (
   Answered c.in-Ok-outcome_of.outcome,
   (c.in-Ok.job, c.in-Ok.ensures.job, c.in-Ok-outcome_of.ensures.served),
-  c.write_out-status.ensures.status whole.written ∙ c.in-Ok-reply.ensures.status,
-  subst (Appends _ _) c.in-Ok-reply.ensures.text (c.write_out-status.ensures.whole whole.written),
+  c.write_out-status.ensures.status whole.written,
+  c.write_out-status.ensures.whole whole.written,
   c.run_behind.ensures.written whole.written,
 )
 
 -- with the run behind it where it is feasible,
 
-pub returns-in-Ok-reply-clause-kept : goal.returns-in-Ok-reply-clause-kept
-returns-in-Ok-reply-clause-kept g c feasible =
+pub returns-in-Ok-clause-kept : goal.returns-in-Ok-clause-kept
+returns-in-Ok-clause-kept g c feasible =
     let outcome = c.in-Ok-outcome_of.outcome in
     let hands = served-run c.in-Ok.job _ outcome c.in-Ok-outcome_of.ensures.served in
     let written : c.write_out-status.result ≢ WRITE_FAULT =
     λ failed. omega (arith, feasible, failed) in
-    let status = c.write_out-status.ensures.status written ∙ c.in-Ok-reply.ensures.status in
+    let status = c.write_out-status.ensures.status written in
     subst IsSome (sym (c.run_behind.ensures.written written)) (hands.feasible (sym status
     ∙ feasible))
 
-pub returns-in-Ok-reply-clause-none_kept : goal.returns-in-Ok-reply-clause-none_kept
-returns-in-Ok-reply-clause-none_kept g c =
+pub returns-in-Ok-clause-none_kept : goal.returns-in-Ok-clause-none_kept
+returns-in-Ok-clause-none_kept g c =
     let outcome = c.in-Ok-outcome_of.outcome in
     none-kept outcome c.write_out-status.result c.run_behind.result
     (served-run c.in-Ok.job _ outcome c.in-Ok-outcome_of.ensures.served)
-    (λ written. c.write_out-status.ensures.status written ∙ c.in-Ok-reply.ensures.status)
+    (λ written. c.write_out-status.ensures.status written)
     c.run_behind.ensures.written c.run_behind.ensures.failed
 
-pub returns-in-Ok-reply-clause-front : goal.returns-in-Ok-reply-clause-front
-returns-in-Ok-reply-clause-front g c failed = (
+pub returns-in-Ok-clause-front : goal.returns-in-Ok-clause-front
+returns-in-Ok-clause-front g c failed = (
   Answered c.in-Ok-outcome_of.outcome,
   (c.in-Ok.job, c.in-Ok.ensures.job, c.in-Ok-outcome_of.ensures.served),
-  subst (AppendsFront _ _) c.in-Ok-reply.ensures.text (c.write_out-status.ensures.front failed),
+  c.write_out-status.ensures.front failed,
 )
 
 -- and agrees with each other that is.
 
-pub returns-in-Ok-reply-clause-told : goal.returns-in-Ok-reply-clause-told
-returns-in-Ok-reply-clause-told g c whole told output right = (
+pub returns-in-Ok-clause-told : goal.returns-in-Ok-clause-told
+returns-in-Ok-clause-told g c whole told output right = (
   Answered c.in-Ok-outcome_of.outcome,
   right-agree (texts c.args.words.now) c.in-Ok.job _
       (λ other asked. let same = c.in-Ok.ensures.asked other asked in cc)
       c.in-Ok-outcome_of.outcome output c.in-Ok.ensures.job told
       c.in-Ok-outcome_of.ensures.served right,
-  subst (Appends _ _) c.in-Ok-reply.ensures.text (c.write_out-status.ensures.whole whole.written),
+  c.write_out-status.ensures.whole whole.written,
 )
 
-pub returns-in-Ok-reply-clause-exact : goal.returns-in-Ok-reply-clause-exact
-returns-in-Ok-reply-clause-exact g c whole told output right =
+pub returns-in-Ok-clause-exact : goal.returns-in-Ok-clause-exact
+returns-in-Ok-clause-exact g c whole told output right =
     let own = c.in-Ok-outcome_of.outcome in
-    let status = c.write_out-status.ensures.status whole.written ∙ c.in-Ok-reply.ensures.status in
+    let status = c.write_out-status.ensures.status whole.written in
     subst (MayEndWith output) (sym status)
     (agree-status (Answered own) output (right-agree (texts c.args.words.now) c.in-Ok.job _
     (λ other asked. let same = c.in-Ok.ensures.asked other asked in cc) own output
     c.in-Ok.ensures.job told c.in-Ok-outcome_of.ensures.served right))
 
-pub returns-in-Ok-reply-clause-enough : goal.returns-in-Ok-reply-clause-enough
-returns-in-Ok-reply-clause-enough g c =
+pub returns-in-Ok-clause-enough : goal.returns-in-Ok-clause-enough
+returns-in-Ok-clause-enough g c =
     enough-served (texts c.args.words.now) c.in-Ok.job _
     (λ other asked. let same = c.in-Ok.ensures.asked other asked in cc)
     c.in-Ok-outcome_of.outcome c.write_out-status.result c.in-Ok-outcome_of.ensures.served
-    (λ written. c.write_out-status.ensures.status written ∙ c.in-Ok-reply.ensures.status)
+    (λ written. c.write_out-status.ensures.status written)
 
-pub returns-in-Ok-reply-clause-ended : goal.returns-in-Ok-reply-clause-ended
-returns-in-Ok-reply-clause-ended g c whole =
+pub returns-in-Ok-clause-ended : goal.returns-in-Ok-clause-ended
+returns-in-Ok-clause-ended g c whole =
     ended-for (texts c.args.words.now) c.in-Ok.job _
     (λ other asked. let same = c.in-Ok.ensures.asked other asked in cc) _
     c.in-Ok-outcome_of.ensures.ended
@@ -146,8 +145,8 @@ returns-in-Err-clause-front g c failed = (
 
 -- What the reads of this call gave, where the words ask for a job,
 
-pub returns-in-Ok-reply-clause-given : goal.returns-in-Ok-reply-clause-given
-returns-in-Ok-reply-clause-given g c whole =
+pub returns-in-Ok-clause-given : goal.returns-in-Ok-clause-given
+returns-in-Ok-clause-given g c whole =
     let answered = c.in-Ok-outcome_of.ensures.given in (
       answered.input,
       Answered c.in-Ok-outcome_of.outcome,
@@ -155,14 +154,13 @@ returns-in-Ok-reply-clause-given g c whole =
       served-whole-of (texts c.args.words.now) c.in-Ok.job _ _ _ c.in-Ok-outcome_of.outcome
           c.in-Ok.ensures.job (λ other asked. let same = c.in-Ok.ensures.asked other asked in cc)
           answered,
-      c.write_out-status.ensures.status whole.written ∙ c.in-Ok-reply.ensures.status,
-      subst (Appends _ _) c.in-Ok-reply.ensures.text
-          (c.write_out-status.ensures.whole whole.written),
+      c.write_out-status.ensures.status whole.written,
+      c.write_out-status.ensures.whole whole.written,
       c.run_behind.ensures.written whole.written,
     )
 
-pub returns-in-Ok-reply-clause-given_front : goal.returns-in-Ok-reply-clause-given_front
-returns-in-Ok-reply-clause-given_front g c failed =
+pub returns-in-Ok-clause-given_front : goal.returns-in-Ok-clause-given_front
+returns-in-Ok-clause-given_front g c failed =
     let answered = c.in-Ok-outcome_of.ensures.given in (
       answered.input,
       Answered c.in-Ok-outcome_of.outcome,
@@ -170,15 +168,15 @@ returns-in-Ok-reply-clause-given_front g c failed =
       served-whole-of (texts c.args.words.now) c.in-Ok.job _ _ _ c.in-Ok-outcome_of.outcome
           c.in-Ok.ensures.job (λ other asked. let same = c.in-Ok.ensures.asked other asked in cc)
           answered,
-      subst (AppendsFront _ _) c.in-Ok-reply.ensures.text (c.write_out-status.ensures.front failed),
+      c.write_out-status.ensures.front failed,
     )
 
-pub returns-in-Ok-reply-clause-given_enough : goal.returns-in-Ok-reply-clause-given_enough
-returns-in-Ok-reply-clause-given_enough g c =
+pub returns-in-Ok-clause-given_enough : goal.returns-in-Ok-clause-given_enough
+returns-in-Ok-clause-given_enough g c =
     enough-given (texts c.args.words.now) c.in-Ok.job _ _ _ c.in-Ok-outcome_of.outcome
     c.in-Ok.ensures.job (λ other asked. let same = c.in-Ok.ensures.asked other asked in cc)
     c.in-Ok-outcome_of.ensures.given c.write_out-status.result
-    (λ written. c.write_out-status.ensures.status written ∙ c.in-Ok-reply.ensures.status)
+    (λ written. c.write_out-status.ensures.status written)
 
 -- and where they ask for nothing.
 

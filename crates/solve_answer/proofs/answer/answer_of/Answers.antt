@@ -11,17 +11,17 @@ use Rattle.solve_answer.proofs.answer.answer_of.Goals as goal
 
 pub tidy-requires : goal.tidy-requires
 tidy-requires c =
-    let plan = c.args.run'.plan in
+    let plan = c.args.run.plan in
     let told = numbers-told c.args.instance.now plan c.requires.searched.1.plan.legal in
     subst (λ n. All (λ s. s < n) plan) (sym told.0) told.1
 
 -- a path is left
 
 pub returns-then-not-is_empty-clause-is : goal.returns-then-not-is_empty-clause-is
-returns-then-not-is_empty-clause-is c course has =
-    let run = c.args.run' in
+returns-then-not-is_empty-clause-is c =
+    let run = c.args.run in
     let some : 0 < length run.unclosed.items = search rules in
-    rw c.in_ok-plan.ensures (stopped-told c.args.limits course c.args.instance.now
+    λ course has. rw c.in_ok-plan.ensures (stopped-told c.args.limits course c.args.instance.now
     run has (some-by-length run.unclosed.items some) c.requires.instance c.requires.light
     c.requires.nodes)
 
@@ -34,10 +34,10 @@ returns-then-not-is_empty-clause-told c =
 -- no path is left, and no log is asked for
 
 pub returns-then-not-with_log-clause-is : goal.returns-then-not-with_log-clause-is
-returns-then-not-with_log-clause-is c course has =
-    let run = c.args.run' in
+returns-then-not-with_log-clause-is c =
+    let run = c.args.run in
     let none : length run.unclosed.items ≡ 0 = search rules in
-    rw (c.optimal.ensures, c.in_ok-plan.ensures) (best-told c.args.limits course
+    λ course has. rw (c.optimal.ensures, c.in_ok-plan.ensures) (best-told c.args.limits course
     c.args.instance.now run has (none-by-length run.unclosed.items none) c.requires.instance
     c.requires.light None tt tt)
 
@@ -53,26 +53,26 @@ pub merge-requires-clause-fit : goal.merge-requires-clause-fit
 merge-requires-clause-fit c =
     let searched = c.requires.searched in
     rw c.orders.ensures.is (records-fit c.args.limits searched.0 c.args.instance.now
-    c.args.run' searched.1)
+    c.args.run searched.1)
 
 pub returns-clause-is : goal.returns-clause-is
-returns-clause-is c course has =
-    let run = c.args.run' in
+returns-clause-is c =
+    let run = c.args.run in
     let none : length run.unclosed.items ≡ 0 = search rules in
-    rw (c.optimal-2.ensures, c.in_ok-plan.ensures) (best-told c.args.limits course
+    λ course has. rw (c.optimal-2.ensures, c.in_ok-plan.ensures) (best-told c.args.limits course
     c.args.instance.now run has (none-by-length run.unclosed.items none)
     c.requires.instance c.requires.light (Some c.in_ok-log.log)
     (c.in_ok-log.ensures.orders ∙ ap length c.orders.ensures.is) c.in_ok-log.ensures.log)
 
 pub returns-clause-log : goal.returns-clause-log
-returns-clause-log c course has =
-    let run = c.args.run' in
+returns-clause-log c =
+    let run = c.args.run in
     let log = c.in_ok-log.log in
     let none : length run.unclosed.items ≡ 0 = search rules in
     let asked : c.args.with_log ≡ true = search rules in
-    rw (asked, c.optimal-2.ensures) (log-refutes c.args.limits course c.args.instance.now run has
-    (none-by-length run.unclosed.items none) log.entries c.in_ok-log.ensures.records
-    c.in_ok-log.ensures.complete c.in_ok-log.ensures.named)
+    λ course has. rw (asked, c.optimal-2.ensures) (log-refutes c.args.limits course
+    c.args.instance.now run has (none-by-length run.unclosed.items none) log.entries
+    c.in_ok-log.ensures.records c.in_ok-log.ensures.complete c.in_ok-log.ensures.named)
 
 pub returns-clause-told : goal.returns-clause-told
 returns-clause-told c =

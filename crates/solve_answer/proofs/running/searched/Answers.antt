@@ -7,14 +7,14 @@ use Rattle.solve_answer.proofs.Searched.{has-searched}
 use Rattle.solve_answer.proofs.running.searched.Goals as goal
 
 pub run_workers-requires-clause-light : goal.run_workers-requires-clause-light
-run_workers-requires-clause-light g c =
+run_workers-requires-clause-light g c lives within =
     let problem = c.args.instance.now in
     let rank = c.in_ok-beginning.ensures.beginning.ranked in
     rw (rank.placed, rank.mill) (ranked-each (λ order. order.weight ≤ largest problem.sizes)
     problem.orders c.requires.light)
 
 pub run_workers-requires-clause-start : goal.run_workers-requires-clause-start
-run_workers-requires-clause-start g c = c.in_ok-beginning.ensures.beginning.begins
+run_workers-requires-clause-start g c lives within = c.in_ok-beginning.ensures.beginning.begins
 
 pub returns : goal.returns
 returns g c =

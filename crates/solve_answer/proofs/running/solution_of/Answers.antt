@@ -1,5 +1,22 @@
 use Rattle.solve_answer.specs.Course.{Running}
+use Rattle.solve_answer.proofs.Answered.{infeasible-told, told-fits}
 use Rattle.solve_answer.proofs.running.solution_of.Goals as goal
 
 pub answer_of-requires-clause-searched : goal.answer_of-requires-clause-searched
 answer_of-requires-clause-searched g c = (Running, c.in_ok-run.ensures)
+
+pub returns-in-Some-clause-is : goal.returns-in-Some-clause-is
+returns-in-Some-clause-is g c =
+    rw c.infeasible.ensures (infeasible-told c.args.limits Running c.args.instance.now
+    c.in-Some.order c.in-Some.ensures.kept c.in-Some.ensures.first)
+
+pub returns-in-Some-clause-told : goal.returns-in-Some-clause-told
+returns-in-Some-clause-told g c =
+    told-fits c.args.limits Running c.args.instance.now _ c.in-Some.ensures.kept
+    (returns-in-Some-clause-is g c)
+
+pub returns-clause-is : goal.returns-clause-is
+returns-clause-is g c = c.in_ok-solution.ensures.is Running c.in_ok-run.ensures
+
+pub returns-clause-log : goal.returns-clause-log
+returns-clause-log g c = c.in_ok-solution.ensures.log Running c.in_ok-run.ensures

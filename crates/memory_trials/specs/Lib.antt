@@ -1,0 +1,2 @@
+-- What trials keep from step to step.
+pub mod Kept

@@ -1,0 +1,5 @@
+pub mod Calls
+pub mod Events
+pub mod Losses
+pub mod AtWork
+pub mod Ends

@@ -1,0 +1,4 @@
+pub mod Running
+pub mod Jobs
+pub mod Worked
+pub mod AtWork

@@ -1,0 +1,7 @@
+pub mod Hands
+pub mod Deals
+pub mod Backs
+pub mod Seatings
+pub mod Begun
+pub mod Ends
+pub mod GoesOn

@@ -103,8 +103,8 @@ returns-in-Ok-clause-ended g c whole =
     (λ other asked. let same = c.in-Ok.ensures.asked other asked in cc) _
     c.in-Ok-outcome_of.ensures.ended
 
-pub returns-in-Ok-reply-clause-unread : goal.returns-in-Ok-reply-clause-unread
-returns-in-Ok-reply-clause-unread g c none =
+pub returns-in-Ok-clause-unread : goal.returns-in-Ok-clause-unread
+returns-in-Ok-clause-unread g c none =
     c.in-Ok-outcome_of.ensures.unread (none c.in-Ok.job c.in-Ok.ensures.job)
 
 -- Words that ask for nothing.

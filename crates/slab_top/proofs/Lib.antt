@@ -8,6 +8,7 @@ mod EachCommand
 mod Rights
 mod Given
 mod Courses
+mod RightAnswers
 mod MoreBehind
 mod ReadBehind
 mod BothHalves

@@ -2,6 +2,7 @@ pub mod Stage
 pub mod Input
 pub mod Reply
 pub mod Threads
+pub mod Searches
 pub mod Solve
 pub mod Prove
 pub mod Replay

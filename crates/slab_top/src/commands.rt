@@ -28,6 +28,7 @@ pub fn serve<V: Searcher>(
     input: &[u8],
 ) -> Result<Outcome, Stop>
     requires in_range { IsInRange job }
+    requires ready { V.ready searcher.now }
     requires threads { NeedsThreads job → V.has_threads ≡ true }
     ensures reply { IsReply (Serves job.command job input.now) result }
     ensures told { IfOk result IsToTell }

@@ -5,6 +5,7 @@ mod commands;
 mod front;
 mod laws;
 mod plain;
+mod search;
 mod searcher;
 mod serving;
 mod streams;

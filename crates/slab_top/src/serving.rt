@@ -43,6 +43,7 @@ fn outcome_of<V: Searcher, S: Source>(
     source: &mut S,
 ) -> Result<Outcome, Failure>
     requires in_range { IsInRange job }
+    requires ready { V.ready searcher.now }
     requires threads { NeedsThreads job → V.has_threads ≡ true }
     ensures served { IfOk result (IsServed job (S.left source.old)) }
     ensures told { IfOk result IsToTell }
@@ -77,6 +78,7 @@ fn answered<V: Searcher>(
     input: &[u8],
 ) -> Result<Outcome, Failure>
     requires in_range { IsInRange job }
+    requires ready { V.ready searcher.now }
     requires threads { NeedsThreads job → V.has_threads ≡ true }
     ensures served { IfOk result (Serves job.command job input.now) }
     ensures told { IfOk result IsToTell }
@@ -132,6 +134,7 @@ pub fn serve_words<V: Searcher, S: Source, K: Sink>(
     sink: &mut K,
     kept: &mut Option<Run>,
 ) -> u8
+    requires ready { V.ready searcher.now }
     requires threads { NeedThreads (texts words.now) → V.has_threads ≡ true }
     ensures answered { IsAnswered result → (output : Output)
         × IsRight (texts words.now) (S.left source.old) output

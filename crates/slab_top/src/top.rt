@@ -1,5 +1,5 @@
 //! The top call, and whether it needs threads. What it promises is proved in `serving`.
-ghost use Rattle.std.specs.Prelude.{◌≡◌, ◌≢◌, ◌++◌, ◌↔◌, ℕ, true, List, None, IfSome, IsSome};
+ghost use Rattle.std.specs.Prelude.{◌≡◌, ◌≢◌, ◌++◌, ◌↔◌, ℕ, true, List, None, IfOk, IfSome, IsSome};
 ghost use Rattle.std.specs.Io.KnownBytes.{Appends, IsAtEnd};
 ghost use Rattle.mill_io.specs.Causes.{Rose};
 ghost use Rattle.mill_io.specs.Bytes.{AppendsFront, AppendsToBoth, GivesLost};
@@ -11,14 +11,20 @@ ghost use Rattle.slab_top.specs.Served.{Output, IsRight, run_of, status_of, text
 ghost use Rattle.slab_top.specs.Agree.{Agree, MayEndWith};
 ghost use Rattle.slab_top.specs.Given.{IsServedWhole};
 ghost use Rattle.slab_top.specs.Run.{AskForNoInput, HasEnough, IsAnswered, IsStatus, IsToBeRead};
+ghost use Rattle.slab_top.specs.Searches.{IsRightAnswer, IsWithinLimits};
 ghost use Rattle.slab_top.specs.Threads.{NeedThreads, lets_run};
+ghost use denote.Param.Send.{IsSync};
 
 use crate::plain::run_plain;
-use crate::searcher::InThreads;
+use crate::search::Search;
+use crate::searcher::ByCall;
 use crate::serving::serve_words;
 use job_words::{Command, read_words};
 use mill_io::{Sink, Source};
+use mill_model::OutOfMemory;
 use refute_log::Run;
+use reply_text::Solution;
+use solve_answer::{prove, prove_running, solve, solve_running};
 use std::alloc::Global;
 use std::sync::Wait;
 use std::thread::Threads;
@@ -134,8 +140,35 @@ pub fn run<R: Threads + Wait + Sync, S: Source, K: Sink, G: Gate>(
     ensures memory_for { result ≡ OUT_OF_MEMORY → (job : Job) × AskFor (texts words.now) job }
 {
     if needs_threads(words) {
-        serve_words(&InThreads { rt, gate }, alloc, words, source, sink, kept)
+        let call = |search: Search| -> Result<Solution, OutOfMemory>
+            requires { IsSync R.row × IsSync G.row × IsWithinLimits search }
+            ensures { IfOk result (IsRightAnswer search) }
+        { run_search(rt, alloc, gate, search) };
+        serve_words(&ByCall { call }, alloc, words, source, sink, kept)
     } else {
         run_plain(alloc, words, source, sink, kept)
+    }
+}
+
+// Searches, with workers in threads where there are more than one.
+fn run_search<R: Threads + Wait + Sync, G: Gate>(
+    rt: &R,
+    alloc: Global,
+    gate: &G,
+    search: Search,
+) -> Result<Solution, OutOfMemory>
+    requires { IsWithinLimits search }
+    ensures { IfOk result (IsRightAnswer search) }
+{
+    let Search {
+        instance,
+        limits,
+        with_log,
+    } = search;
+    match (with_log, limits.workers > 1) {
+        (true, true) => prove_running(rt, alloc, &instance, limits, gate),
+        (true, false) => prove(alloc, &instance, limits, &[]),
+        (false, true) => solve_running(rt, alloc, &instance, limits, gate),
+        (false, false) => solve(alloc, &instance, limits),
     }
 }

@@ -16,16 +16,18 @@ use std::alloc::Global;
 /// the plan. Nothing is read.
 pub fn serve<V: Searcher>(searcher: &V, alloc: Global, job: Job) -> Result<Outcome, OutOfMemory>
     requires in_range { IsInRange job }
+    requires ready { V.ready searcher.now }
     requires threads { 1 < job.limits.workers → V.has_threads ≡ true }
     ensures drills { IfOk result (Drills job) }
     ensures told { IfOk result IsToTell }
 {
     let instance = drill_instance(alloc, job.seed, job.orders, job.p)?;
-    let solution = searcher.solve(alloc, &instance, job.limits)?;
+    let weight = whole_weight(&instance);
+    let solution = searcher.solve(alloc, instance, job.limits)?;
     let summary = Summary {
         seed: job.seed,
         orders: job.orders,
-        weight: whole_weight(&instance),
+        weight,
         ending: ending_of(solution),
     };
     Ok(Outcome::Drilled(summary))

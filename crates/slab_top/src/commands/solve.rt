@@ -19,11 +19,12 @@ pub fn serve<V: Searcher>(
     input: &[u8],
 ) -> Result<Outcome, Stop>
     requires in_range { IsInRange job }
+    requires ready { V.ready searcher.now }
     requires threads { 1 < job.limits.workers → V.has_threads ≡ true }
     ensures reply { IsReply (Solves job input.now) result }
     ensures told { IfOk result IsToTell }
 {
     let instance = read_alone(alloc, job, input)?;
-    let solution = searcher.solve(alloc, &instance, job.limits)?;
+    let solution = searcher.solve(alloc, instance, job.limits)?;
     Ok(Outcome::Solved(solution))
 }

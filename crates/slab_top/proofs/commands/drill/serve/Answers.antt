@@ -37,8 +37,8 @@ returns-clause-drills g c = (
   record {
     seed = refl;
     orders = refl;
-    weight = subst (λ problem. c.whole_weight.result ≡ load problem.orders)
-        c.in_ok-instance.ensures.made c.whole_weight.ensures.weight;
+    weight = subst (λ problem. c.whole_weight-weight.result ≡ load problem.orders)
+        c.in_ok-instance.ensures.made c.whole_weight-weight.ensures.weight;
     solution = c.in_ok-solution.solution;
     solved = subst (λ problem. IsSolved c.args.job.limits (course_of c.args.job.limits) problem
         c.in_ok-solution.solution) c.in_ok-instance.ensures.made c.in_ok-solution.ensures.is;

@@ -1,16 +1,15 @@
 -- An answer of `solve` or of `prove` is a right answer to a search that asks for it.
-use Rattle.std.proofs.Common.{ℕ, ◌≡◌, ◌∙◌, true, false, Result, Ok, Err, IfOk, sym, subst}
-use Rattle.std.proofs.Common.{lt-ltb, ltb-true, ltb}
+use Rattle.std.proofs.Common.{◌≡◌, ◌≤◌, [], true, false, Result, Ok, Err, IfOk, sym, subst}
+use Rattle.std.proofs.Common.{arith}
 use Rattle.answer_text.specs.Text.{Fits, most_orders}
 use Rattle.mill_model.specs.declared.limits.Limits.{Limits}
 use Rattle.reply_text.specs.declared.solution.Solution.{Solution}
-use Rattle.solve_answer.specs.Course.{Course, Scheduled, Running}
+use Rattle.solve_answer.specs.Course.{Course, Scheduled}
 use Rattle.solve_answer.specs.Solved.{IsProved, IsSolved}
 use Rattle.slab_top.specs.Searches.{IsAsAsked, IsRightAnswer}
 use Rattle.slab_top.specs.Threads.{course_of}
 use Rattle.slab_top.specs.declared.search.Search.{Search}
-use Rattle.slab_top.proofs.Courses.{more-run, one-takes-turns}
-use Rattle.std.proofs.Common.{[]}
+use Rattle.slab_top.proofs.Courses.{one-takes-turns}
 
 module _ {E : Type 0} (search : Search) (result : Result Solution E)
     (told : IfOk result (λ solution. Fits (most_orders solution.answer) solution.answer)) where
@@ -46,12 +45,6 @@ module _ {E : Type 0} (search : Search) (result : Result Solution E)
       }
       go (Err e) fits solved = tt
 
--- the course by a test of the number of workers
-pub runs-where-more : (limits : Limits) → ltb 1 limits.workers ≡ true → course_of limits ≡ Running
-runs-where-more limits more = more-run limits (ltb-true 1 limits.workers more)
-
-pub turns-where-one : (limits : Limits) → ltb 1 limits.workers ≡ false →
-    course_of limits ≡ Scheduled []
-turns-where-one limits one =
-    one-takes-turns limits
-    (λ more. (let clash : true ≡ false = sym (lt-ltb 1 limits.workers more) ∙ one in absurd (cc)))
+-- the course of one worker
+pub turns-where-one : (limits : Limits) → limits.workers ≤ 1 → course_of limits ≡ Scheduled []
+turns-where-one limits one = one-takes-turns limits (λ more. omega (arith, one, more))

@@ -33,8 +33,8 @@ write_out-status-requires g c = record {
 
 -- Words that ask for a job: the output that was written is right,
 
-pub returns-in-Ok-clause-answered : goal.returns-in-Ok-clause-answered
-returns-in-Ok-clause-answered g c whole = (
+pub returns-in-Ok-outcome_of-clause-answered : goal.returns-in-Ok-outcome_of-clause-answered
+returns-in-Ok-outcome_of-clause-answered g c whole = (
   Answered c.in-Ok-outcome_of.outcome,
   (c.in-Ok.job, c.in-Ok.ensures.job, c.in-Ok-outcome_of.ensures.served),
   c.write_out-status.ensures.status whole.written,
@@ -44,8 +44,8 @@ returns-in-Ok-clause-answered g c whole = (
 
 -- with the run behind it where it is feasible,
 
-pub returns-in-Ok-clause-kept : goal.returns-in-Ok-clause-kept
-returns-in-Ok-clause-kept g c feasible =
+pub returns-in-Ok-outcome_of-clause-kept : goal.returns-in-Ok-outcome_of-clause-kept
+returns-in-Ok-outcome_of-clause-kept g c feasible =
     let outcome = c.in-Ok-outcome_of.outcome in
     let hands = served-run c.in-Ok.job _ outcome c.in-Ok-outcome_of.ensures.served in
     let written : c.write_out-status.result ≢ WRITE_FAULT =
@@ -54,16 +54,16 @@ returns-in-Ok-clause-kept g c feasible =
     subst IsSome (sym (c.run_behind.ensures.written written)) (hands.feasible (sym status
     ∙ feasible))
 
-pub returns-in-Ok-clause-none_kept : goal.returns-in-Ok-clause-none_kept
-returns-in-Ok-clause-none_kept g c =
+pub returns-in-Ok-outcome_of-clause-none_kept : goal.returns-in-Ok-outcome_of-clause-none_kept
+returns-in-Ok-outcome_of-clause-none_kept g c =
     let outcome = c.in-Ok-outcome_of.outcome in
     none-kept outcome c.write_out-status.result c.run_behind.result
     (served-run c.in-Ok.job _ outcome c.in-Ok-outcome_of.ensures.served)
     (λ written. c.write_out-status.ensures.status written)
     c.run_behind.ensures.written c.run_behind.ensures.failed
 
-pub returns-in-Ok-clause-front : goal.returns-in-Ok-clause-front
-returns-in-Ok-clause-front g c failed = (
+pub returns-in-Ok-outcome_of-clause-front : goal.returns-in-Ok-outcome_of-clause-front
+returns-in-Ok-outcome_of-clause-front g c failed = (
   Answered c.in-Ok-outcome_of.outcome,
   (c.in-Ok.job, c.in-Ok.ensures.job, c.in-Ok-outcome_of.ensures.served),
   c.write_out-status.ensures.front failed,
@@ -71,8 +71,8 @@ returns-in-Ok-clause-front g c failed = (
 
 -- and agrees with each other that is.
 
-pub returns-in-Ok-clause-told : goal.returns-in-Ok-clause-told
-returns-in-Ok-clause-told g c whole told output right = (
+pub returns-in-Ok-outcome_of-clause-told : goal.returns-in-Ok-outcome_of-clause-told
+returns-in-Ok-outcome_of-clause-told g c whole told output right = (
   Answered c.in-Ok-outcome_of.outcome,
   right-agree (texts c.args.words.now) c.in-Ok.job _
       (λ other asked. let same = c.in-Ok.ensures.asked other asked in cc)
@@ -81,8 +81,8 @@ returns-in-Ok-clause-told g c whole told output right = (
   c.write_out-status.ensures.whole whole.written,
 )
 
-pub returns-in-Ok-clause-exact : goal.returns-in-Ok-clause-exact
-returns-in-Ok-clause-exact g c whole told output right =
+pub returns-in-Ok-outcome_of-clause-exact : goal.returns-in-Ok-outcome_of-clause-exact
+returns-in-Ok-outcome_of-clause-exact g c whole told output right =
     let own = c.in-Ok-outcome_of.outcome in
     let status = c.write_out-status.ensures.status whole.written in
     subst (MayEndWith output) (sym status)
@@ -90,21 +90,21 @@ returns-in-Ok-clause-exact g c whole told output right =
     (λ other asked. let same = c.in-Ok.ensures.asked other asked in cc) own output
     c.in-Ok.ensures.job told c.in-Ok-outcome_of.ensures.served right))
 
-pub returns-in-Ok-clause-enough : goal.returns-in-Ok-clause-enough
-returns-in-Ok-clause-enough g c =
+pub returns-in-Ok-outcome_of-clause-enough : goal.returns-in-Ok-outcome_of-clause-enough
+returns-in-Ok-outcome_of-clause-enough g c =
     enough-served (texts c.args.words.now) c.in-Ok.job _
     (λ other asked. let same = c.in-Ok.ensures.asked other asked in cc)
     c.in-Ok-outcome_of.outcome c.write_out-status.result c.in-Ok-outcome_of.ensures.served
     (λ written. c.write_out-status.ensures.status written)
 
-pub returns-in-Ok-clause-ended : goal.returns-in-Ok-clause-ended
-returns-in-Ok-clause-ended g c whole =
+pub returns-in-Ok-outcome_of-clause-ended : goal.returns-in-Ok-outcome_of-clause-ended
+returns-in-Ok-outcome_of-clause-ended g c whole =
     ended-for (texts c.args.words.now) c.in-Ok.job _
     (λ other asked. let same = c.in-Ok.ensures.asked other asked in cc) _
     c.in-Ok-outcome_of.ensures.ended
 
-pub returns-in-Ok-clause-unread : goal.returns-in-Ok-clause-unread
-returns-in-Ok-clause-unread g c none =
+pub returns-in-Ok-outcome_of-clause-unread : goal.returns-in-Ok-outcome_of-clause-unread
+returns-in-Ok-outcome_of-clause-unread g c none =
     c.in-Ok-outcome_of.ensures.unread (none c.in-Ok.job c.in-Ok.ensures.job)
 
 -- Words that ask for nothing.
@@ -145,8 +145,8 @@ returns-in-Err-clause-front g c failed = (
 
 -- What the reads of this call gave, where the words ask for a job,
 
-pub returns-in-Ok-clause-given : goal.returns-in-Ok-clause-given
-returns-in-Ok-clause-given g c whole =
+pub returns-in-Ok-outcome_of-clause-given : goal.returns-in-Ok-outcome_of-clause-given
+returns-in-Ok-outcome_of-clause-given g c whole =
     let answered = c.in-Ok-outcome_of.ensures.given in (
       answered.input,
       Answered c.in-Ok-outcome_of.outcome,
@@ -159,8 +159,8 @@ returns-in-Ok-clause-given g c whole =
       c.run_behind.ensures.written whole.written,
     )
 
-pub returns-in-Ok-clause-given_front : goal.returns-in-Ok-clause-given_front
-returns-in-Ok-clause-given_front g c failed =
+pub returns-in-Ok-outcome_of-clause-given_front : goal.returns-in-Ok-outcome_of-clause-given_front
+returns-in-Ok-outcome_of-clause-given_front g c failed =
     let answered = c.in-Ok-outcome_of.ensures.given in (
       answered.input,
       Answered c.in-Ok-outcome_of.outcome,
@@ -171,8 +171,8 @@ returns-in-Ok-clause-given_front g c failed =
       c.write_out-status.ensures.front failed,
     )
 
-pub returns-in-Ok-clause-given_enough : goal.returns-in-Ok-clause-given_enough
-returns-in-Ok-clause-given_enough g c =
+pub returns-in-Ok-outcome_of-clause-given_enough : goal.returns-in-Ok-outcome_of-clause-given_enough
+returns-in-Ok-outcome_of-clause-given_enough g c =
     enough-given (texts c.args.words.now) c.in-Ok.job _ _ _ c.in-Ok-outcome_of.outcome
     c.in-Ok.ensures.job (λ other asked. let same = c.in-Ok.ensures.asked other asked in cc)
     c.in-Ok-outcome_of.ensures.given c.write_out-status.result

@@ -1,12 +1,12 @@
 -- With a log or without, in threads or on one: each answers what the search asks for.
-use Rattle.slab_top.proofs.RightAnswers.{proved-rightly, solved-rightly}
-use Rattle.slab_top.proofs.RightAnswers.{runs-where-more, turns-where-one}
+use Rattle.slab_top.proofs.Courses.{more-run}
+use Rattle.slab_top.proofs.RightAnswers.{proved-rightly, solved-rightly, turns-where-one}
 use Rattle.slab_top.proofs.top.run_search.Goals as goal
 
 pub returns-in-true-true : goal.returns-in-true-true
 returns-in-true-true g c =
     proved-rightly c.args.search c.prove_running.result c.prove_running.ensures.told _
-    c.in-true-true.is-0 (runs-where-more c.args.search.limits c.in-true-true.is-1)
+    c.in-true-true.is-0 (more-run c.args.search.limits c.in-true-true.is-1)
     c.prove_running.ensures.is
 
 pub returns-in-true-false : goal.returns-in-true-false
@@ -17,7 +17,7 @@ returns-in-true-false g c =
 pub returns-in-false-true : goal.returns-in-false-true
 returns-in-false-true g c =
     solved-rightly c.args.search c.solve_running.result c.solve_running.ensures.told _
-    c.in-false-true.is-0 (runs-where-more c.args.search.limits c.in-false-true.is-1)
+    c.in-false-true.is-0 (more-run c.args.search.limits c.in-false-true.is-1)
     c.solve_running.ensures.is
 
 pub returns : goal.returns

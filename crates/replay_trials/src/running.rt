@@ -15,7 +15,7 @@ use steal_workers::{OpenGate, run_workers};
 
 // What is seen of a run.
 #[derive(Clone, Copy, Debug, Drop, PartialEq, Eq)]
-struct Seen {
+struct RunFacts {
     loss: u64,
     // What its plan loses.
     of_plan: Option<u64>,
@@ -33,7 +33,7 @@ fn seen<R: Threads + Wait + Sync>(
     alloc: Global,
     setting: &Setting,
     nodes: u64,
-) -> Result<Option<Seen>, OutOfMemory>
+) -> Result<Option<RunFacts>, OutOfMemory>
     requires { nodes ≤ 1000000000 }
 {
     let Some(start) = setting.each_alone(alloc)? else {
@@ -56,7 +56,7 @@ fn seen<R: Threads + Wait + Sync>(
     let of_plan = plan_loss(&setting.instance, run.plan.slabs());
     let records = told.len().saturating_sub(run.unclosed.len());
     let refutes = setting.refutes(alloc, run)?;
-    Ok(Some(Seen {
+    Ok(Some(RunFacts {
         loss,
         of_plan,
         records,
@@ -161,7 +161,7 @@ fn a_budget_in_the_middle_leaves_as_many_records(rt: HostRuntime) -> Result<(), 
         let Some(seen) = seen(&rt, alloc, &setting, 5)? else {
             panic!(rt; "there is a plan to start from");
         };
-        let as_it_is_to_be = Seen {
+        let as_it_is_to_be = RunFacts {
             loss: seen.loss,
             of_plan: Some(seen.loss),
             records: 5,

@@ -1,6 +1,7 @@
 //! Each fault of a reader or a writer of std is told, in the middle of a stream too.
 
-use slab_top::{OpenGate, run_streams};
+use mill_io::{MemSink, MemSource};
+use slab_top::{OpenGate, run, run_streams};
 use std::io;
 use std::io::{Read, Write};
 use std::test::Fail;
@@ -53,14 +54,19 @@ impl Write for LittleRoom<'_> {
     }
 }
 
-// The input has 11 bytes, and the twelfth read finds its end. There is no thirteenth.
+// Three orders of three colours, and what `solve` answers to them.
+const THREE_ORDERS: &[u8] = b"1 4\n3\n3\n1 1\n1 2\n2 3\n";
+
+const THEIR_ANSWER: &[u8] = b"optimal\nloss 4\nplan 1 2 1\nend\n";
+
+// The input has 20 bytes, and the read behind them finds its end. There is none behind that one.
 #[test]
 fn each_failing_read_is_told(rt: HostRuntime) -> Result<(), Fail> {
     let alloc = rt.alloc();
     let words = vec![in alloc; String::from_str(alloc, "solve")?]?;
-    for failing in 1..14 {
+    for failing in 1..23 {
         let reader = OneReadFails {
-            bytes: b"1 4 1 1 4 1",
+            bytes: THREE_ORDERS,
             reads: 0,
             failing,
         };
@@ -69,12 +75,36 @@ fn each_failing_read_is_told(rt: HostRuntime) -> Result<(), Fail> {
         let status = run_streams(
             &rt, alloc, &words, reader, &mut held, &OpenGate, &mut kept,
         ).status;
-        let want: (u8, &[u8]) = if failing < 13 {
+        let want: (u8, &[u8]) = if failing < 22 {
             (5, b"")
         } else {
-            (0, b"optimal\nloss 0\nplan 1\nend\n")
+            (0, THEIR_ANSWER)
         };
         assert_eq!(rt; (status, held.as_slice()), want, "{failing}");
+    }
+    Ok(())
+}
+
+// Each row: the read that fails and the write, if one does, and the status.
+#[test]
+fn one_failing_read_or_write_in_memory_is_told(rt: HostRuntime) -> Result<(), Fail> {
+    let alloc = rt.alloc();
+    let words = vec![in alloc; String::from_str(alloc, "solve")?]?;
+    for (read, write, status) in [(2u32, 0u32, 5u8), (0, 1, 6), (0, 0, 0)] {
+        let mut source = MemSource::new(alloc, THREE_ORDERS, 1, &[read])?;
+        let mut sink = MemSink::new(alloc, 4096, &[write])?;
+        let mut kept = None;
+        let found = run(
+            &rt,
+            alloc,
+            &words,
+            &mut source,
+            &mut sink,
+            &OpenGate,
+            &mut kept,
+        );
+        let text: &[u8] = if status == 0 { THEIR_ANSWER } else { b"" };
+        assert_eq!(rt; (found, sink.bytes()), (status, text));
     }
     Ok(())
 }
@@ -84,7 +114,8 @@ fn each_failing_read_is_told(rt: HostRuntime) -> Result<(), Fail> {
 fn each_lack_of_room_is_told(rt: HostRuntime) -> Result<(), Fail> {
     let alloc = rt.alloc();
     let words = vec![in alloc; String::from_str(alloc, "solve")?]?;
-    let rows: [(&[u8], u8, &[u8]); 3] = [
+    let rows: [(&[u8], u8, &[u8]); 4] = [
+        (THREE_ORDERS, 0, THEIR_ANSWER),
         (b"1 4 1 1 4 1", 0, b"optimal\nloss 0\nplan 1\nend\n"),
         (b"1 4 1 1 5 1", 1, b"infeasible\norder 1\nend\n"),
         (b"1 4 1 x", 3, b"refused instance byte 6\n"),

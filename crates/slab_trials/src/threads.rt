@@ -17,6 +17,7 @@ use std::thread::Threads;
 const THREE_ORDERS: &str = "1 4\n3\n3\n1 1\n1 2\n2 3\n";
 
 // What a call ended with, what it wrote, and the run that it handed out.
+#[derive(Drop)]
 struct End {
     status: u8,
     text: Vec<u8>,
@@ -44,6 +45,7 @@ fn ended<R: Threads + Wait + Sync, G: Gate>(
 }
 
 // Holds the first worker that comes with a path of length 2, until another one comes with one.
+#[derive(Drop)]
 struct TillAnotherComes {
     // The number of the held worker and one more, or 0 where none was held yet.
     held: AtomicU64,
@@ -103,6 +105,7 @@ fn two_workers_close_beside_each_other(rt: HostRuntime) -> Result<(), Fail> {
 }
 
 // Holds worker 1 each time that it comes, until worker 0 has come twice.
+#[derive(Drop)]
 struct TillWorkerZeroCameTwice {
     times: AtomicU64,
 }

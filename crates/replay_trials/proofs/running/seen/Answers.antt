@@ -1,9 +1,9 @@
 use Rattle.replay_trials.proofs.running.seen.Goals as goal
 
 pub refutes-requires : goal.refutes-requires
-refutes-requires c = record {
-  start = c.in_ok-start.start.loss;
+refutes-requires g c = record {
+  start = _;
   nodes = c.args.nodes;
-  few = c.requires.nodes;
+  few = c.requires;
   is = c.in_ok-run.ensures.run;
 }

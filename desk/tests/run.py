@@ -5,6 +5,7 @@ The last line is `N passed, N failed`. With `--all` a test that is left out coun
 
 import argparse
 import os
+import signal
 import sys
 import unittest
 from collections import Counter
@@ -46,6 +47,9 @@ def main(arguments: list[str]) -> int:
     parser.add_argument('-v', '--verbose', action='store_true', help='name each test')
     parser.add_argument('names', nargs='*', help='test modules, such as test_numbers')
     words = parser.parse_args(arguments)
+    # A shell starts what it runs in the background with SIGINT ignored, and the programs that the
+    # tests interrupt would inherit that.
+    signal.signal(signal.SIGINT, signal.default_int_handler)
     if words.program:
         os.environ['MILL_SLAB_PROGRAM'] = str(Path(words.program).resolve())
     loader = unittest.TestLoader()

@@ -1,3 +1,5 @@
+//! Why the text of an answer is refused. A log in it is refused for the same reasons as alone.
+
 use mill_model::OutOfMemory;
 use refute_log::LogTextError;
 use std::alloc::AllocError;

@@ -1,3 +1,4 @@
+//! One line of an answer, read: a number behind its name, an order's place, or a plan.
 ghost use Rattle.std.specs.Prelude.{◌≡◌, ◌≢◌, ◌<◌, ◌≤◌, ◌-◌, ◌^◌, ◌∷◌, [], List, ℕ, IfOk, IfSome};
 ghost use Rattle.std.specs.Prelude.{IfNone};
 ghost use Rattle.std.specs.Fmt.{decimal};

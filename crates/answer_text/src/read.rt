@@ -1,3 +1,4 @@
+//! The text of an answer, read line by line, with the first line that is wrong.
 ghost use Rattle.std.specs.Prelude.{◌≡◌, ◌<◌, ◌+◌, ◌^◌, ◌∷◌, [], ℕ, length, codes};
 ghost use Rattle.std.specs.Prelude.{OnOk, OnErr, IfOk, IfErr, IfSome, Ok, Err, true, false};
 ghost use Rattle.line_text.specs.Lines.{text_lines};

@@ -1,3 +1,4 @@
+//! The canonical text of an instance, printed.
 ghost use Rattle.std.specs.Prelude.{◌≡◌, ◌∷◌, ◌++◌, flat_map, string_bytes, decimal, IfOk, OnOk};
 ghost use Rattle.instance_text.specs.Text.{IsInstanceText, canonical_text, order_line};
 

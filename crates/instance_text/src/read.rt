@@ -1,3 +1,4 @@
+//! The instance that a text begins with, read, and the byte at which it ends.
 ghost use Rattle.std.specs.Prelude.{◌≡◌, ℕ, ◌≤◌, length, IfErr, IfOk, Ok, Err};
 ghost use Rattle.mill_model.specs.Instance.{Problem};
 ghost use Rattle.instance_text.specs.declared.error.InstanceError.{InstanceError};

@@ -1,3 +1,4 @@
+//! The tokens of an instance, read one after another: numbers, each within the range of its field.
 ghost use Rattle.std.specs.Prelude.{◌≡◌, suc, ◌+◌, ◌-◌, ◌*◌, ◌^◌, ◌<◌, ◌≤◌, [], ◌∷◌, length};
 ghost use Rattle.std.specs.Prelude.{take, replicate, min, IfOk, IfErr, Err};
 ghost use Rattle.std.specs.List.{prefix_len};

@@ -1,3 +1,6 @@
+//! Texts of instances: the first wrong token, what the tokens say, where the rest begins, and what
+//! is printed.
+
 use super::*;
 use mill_model::{Instance, Order};
 use std::alloc::Global;

@@ -1,3 +1,4 @@
+//! The commands, by the words that spell them, and how many bytes each reads at most.
 ghost use Rattle.std.specs.Prelude.{◌≡◌, IfSome, IfNone};
 ghost use Rattle.job_words.specs.Words.{spelling};
 

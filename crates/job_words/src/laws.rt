@@ -1,3 +1,4 @@
+//! What the options' rules are, each written out as a law. Nothing here runs.
 ghost use Rattle.std.specs.Prelude.{◌≡◌};
 ghost use Rattle.job_words.specs.Options.{rule_of};
 ghost use Rattle.job_words.specs.declared.option.Setting.TheVariants.{Workers, Nodes, Colours};

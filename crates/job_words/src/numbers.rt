@@ -1,3 +1,4 @@
+//! The numbers that options give, one at most for each setting.
 ghost use Rattle.std.specs.Prelude.{◌≡◌, cond, None, Some};
 ghost use Rattle.job_words.specs.Options.{rule_of, same_setting};
 ghost use Rattle.job_words.specs.Reading.{held_for};

@@ -1,3 +1,4 @@
+//! The options: what each sets, which numbers it takes, and the commands that it may stand with.
 ghost use Rattle.std.specs.Prelude.{◌≡◌, ◌≢◌, true, IfSome, IfNone};
 ghost use Rattle.job_words.specs.Options.{allows, name_of, rule_of};
 

@@ -1,3 +1,4 @@
+//! Words, read as a job: a command with its options and their numbers, or the first wrong word.
 ghost use Rattle.std.specs.Prelude.{
   ◌≡◌,
   ℕ,

@@ -1,3 +1,5 @@
+//! Words and the jobs that they ask for, words that ask for nothing, and the usage line.
+
 use super::*;
 use mill_io::MemSink;
 use mill_model::{Limits, OutOfMemory};

@@ -1,3 +1,4 @@
+//! The usage line, written from the tables of commands and options.
 ghost use Rattle.std.specs.Prelude.{ℕ, ◌++◌, flat_map, OnOk, OnErr};
 ghost use Rattle.std.specs.Io.KnownBytes.{Appends};
 ghost use Rattle.mill_io.specs.Bytes.{AppendsFront, AppendsToBoth};

@@ -1,3 +1,4 @@
+//! An answer is judged with its log: the plan first, then the stated loss, then the log.
 ghost use Rattle.std.specs.Prelude.{◌≡◌, length, true, IfOk, IfSome, IfNone};
 ghost use Rattle.mill_model.specs.Plan.{numbers_each};
 ghost use Rattle.answer_text.specs.Text.{Fits};

@@ -1,3 +1,4 @@
+//! An answer is judged without its log: by its plan and stated loss, or by the order that it names.
 ghost use Rattle.std.specs.Prelude.{◌≡◌, length, true, IfOk};
 ghost use Rattle.mill_model.specs.Plan.{numbers_each};
 ghost use Rattle.answer_text.specs.Text.{Fits};

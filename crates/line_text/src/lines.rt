@@ -1,3 +1,4 @@
+//! The lines of a text, one after another, and white space.
 ghost use Rattle.std.specs.Prelude.{◌≡◌, ◌<◌, ◌≤◌, ◌^◌, ◌∷◌, [], length, IfSome, IfNone};
 ghost use Rattle.line_text.specs.Lines.{text_lines, is_white, is_blank, is_end, first_filled};
 ghost use Rattle.line_text.specs.Words.{BeginsWith};

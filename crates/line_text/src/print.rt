@@ -1,3 +1,4 @@
+//! Canonical numbers, put through a block: alone, behind words, or in a list.
 ghost use Rattle.std.specs.Prelude.{◌≡◌, ◌<◌, ◌+◌, ◌^◌, ◌∷◌, ◌++◌, flat_map};
 ghost use Rattle.std.specs.Fmt.{decimal, signed_decimal};
 ghost use Rattle.mill_io.specs.Blockwise.{PutsText};

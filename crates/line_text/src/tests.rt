@@ -1,3 +1,5 @@
+//! Digits, numbers, lists and lines as they are read, and numbers as they are printed.
+
 use crate::{
     Lines, Words, is_end, is_white, leading_digits, put_named, put_number, put_ordinals,
     put_signed_numbers,

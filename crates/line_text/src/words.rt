@@ -1,3 +1,4 @@
+//! The words of a line, one after another: any word, a canonical number, or a list of numbers.
 ghost use Rattle.std.specs.Prelude.{◌≡◌, ◌<◌, ◌≤◌, ◌+◌, ◌-◌, ◌^◌, ◌∷◌, ◌++◌, [], length, take};
 ghost use Rattle.std.specs.Prelude.{drop, All, IsTrue, ◌↔◌, IfOk, IfSome, IfNone, OnErr, List, ℕ};
 ghost use Rattle.std.specs.Prelude.{ℤ, min};

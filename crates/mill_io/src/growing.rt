@@ -1,3 +1,4 @@
+//! A sink in memory that takes what it needs as it grows.
 ghost use Rattle.std.specs.Prelude.{◌≡◌, ◌++◌, [], IsErr, OnOk, OnErr, Some};
 ghost use Rattle.std.specs.Io.KnownBytes.{Appends};
 ghost use Rattle.mill_io.specs.Bytes.{AppendsFront, AppendsToBoth};

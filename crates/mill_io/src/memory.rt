@@ -1,3 +1,4 @@
+//! A source and a sink in memory, whose reads and writes fail where they are asked to.
 ghost use Rattle.std.specs.Prelude.{◌≡◌, ◌+◌, ◌-◌, ◌≤◌, ◌↔◌, [], ◌++◌, drop, length, min, take};
 ghost use Rattle.std.specs.Prelude.{Contains, IsTrue, IsOk, IsErr, IfOk, OnOk, OnErr, Some};
 ghost use Rattle.std.specs.Prelude.{vec_len, vec_capacity};

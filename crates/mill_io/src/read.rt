@@ -1,3 +1,4 @@
+//! A source, read to its end within a limit, or the reason why it couldn't be.
 ghost use Rattle.std.specs.Prelude.{◌≡◌, ◌≢◌, ◌+◌, ◌≤◌, ◌++◌, vec_len, IfOk, OnOk, IsErrOf};
 ghost use Rattle.std.specs.Io.KnownBytes.{Consumes, IsAtEnd};
 ghost use Rattle.mill_io.specs.Bytes.{GivesAtMost, GivesCount, GivesLost, HasMoreThan};

@@ -1,3 +1,4 @@
+//! Readers and writers of std as sources and sinks, which tell the bytes that went through.
 ghost use Rattle.std.specs.Prelude.{◌≡◌, ◌≤◌, ◌↔◌, [], Some, OnOk, OnErr, length, take};
 ghost use Rattle.std.specs.Io.KnownBytes.{Appends, ReadConsumes};
 ghost use Rattle.std.specs.Io.{ReadsAtMost};

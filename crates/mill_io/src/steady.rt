@@ -1,3 +1,4 @@
+//! A source in memory and a sink that counts, which never fail.
 ghost use Rattle.std.specs.Prelude.{◌≡◌, ℕ, ◌+◌, ◌-◌, ◌^◌, ◌≤◌, [], drop, length, min, take};
 ghost use Rattle.std.specs.Prelude.{IfOk, Ok, Some, None};
 ghost use Rattle.std.specs.Io.{ReadsAtMost};

@@ -1,3 +1,5 @@
+//! Sources that are read to the end or fail, sinks with more or less room, and texts in blocks.
+
 use super::*;
 use std::io;
 use std::io::Read;

@@ -1,3 +1,4 @@
+//! An instance: the sizes of slabs, the orders, and how many colours a slab may carry.
 ghost use Rattle.std.specs.Prelude.{◌≡◌};
 ghost use Rattle.mill_model.specs.Instance.{AreSizesOf, IsInstance, IsWithin, largest};
 

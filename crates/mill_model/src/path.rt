@@ -1,3 +1,4 @@
+//! A node of the tree of plans, by the path that leads to it.
 ghost use Rattle.std.specs.Prelude.{◌≡◌, [], ◌∷◌, ◌++◌, IfOk};
 
 use crate::OutOfMemory;

@@ -1,3 +1,4 @@
+//! A plan, by the slab of each order, and its canonical form.
 ghost use Rattle.std.specs.Prelude.{◌≡◌, ◌<◌, ◌++◌, ◌∷◌, [], ℕ, List, All, IfOk, length};
 ghost use Rattle.mill_model.specs.Numbering.{IsNumbering};
 ghost use Rattle.list_laws.specs.Sets.{different};

@@ -1,3 +1,4 @@
+//! The orders of an instance in rank: their places in the file, their classes, and plans by rank.
 ghost use Rattle.std.specs.Prelude.{◌≡◌, ◌<◌, ◌≤◌, List, true, length, IfOk};
 ghost use Rattle.std.specs.Prelude.{slice_get, slice_index};
 ghost use Rattle.mill_model.specs.Instance.{IsOrder};

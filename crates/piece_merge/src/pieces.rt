@@ -1,3 +1,4 @@
+//! The pieces of a whole run are merged into one log, whose records rise by path.
 ghost use Rattle.std.specs.Prelude.{◌≡◌, ◌<◌, ◌≤◌, ◌^◌, true, length, All, IfOk};
 ghost use Rattle.std.specs.List.Sorted.{IsPermutation};
 ghost use Rattle.mill_model.specs.Conserved.{joined};

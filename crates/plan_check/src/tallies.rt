@@ -1,3 +1,4 @@
+//! What each slab of a plan carries: its load, and how many colours.
 ghost use Rattle.std.specs.Prelude.{◌≡◌, ◌<◌, ◌≤◌, ℕ, true, All, IfOk, length, slice_index};
 ghost use Rattle.mill_model.specs.Instance.{IsOrder};
 ghost use Rattle.mill_model.specs.Plan.{numbers_each, slab};

@@ -1,3 +1,4 @@
+//! The tokens of a text, one after another, with white space between them.
 ghost use Rattle.std.specs.Prelude.{◌≡◌, ◌≤◌, ◌∷◌, [], not, length, IfSome, IfNone};
 ghost use Rattle.std.specs.List.{prefix_len};
 ghost use Rattle.line_text.specs.Lines.{is_white};

@@ -1,3 +1,4 @@
+//! The least loss that any worker knows: the shared word, and what may be done with it.
 ghost use Rattle.std.specs.Prelude.{◌≡◌, ◌≤◌, ◌<◌, ◌+◌, ◌-◌, ◌⊎◌, [], ◌∷◌, ◌++◌, min};
 ghost use Rattle.std.specs.Prelude.{All, Contains, IfOk};
 ghost use Rattle.shared_words.specs.Best.{IsLossSeatOf};

@@ -1,3 +1,4 @@
+//! The tickets of a budget and the halt: the shared words, and what may be done with them.
 ghost use Rattle.std.specs.Prelude.{◌≡◌, ◌≤◌, ◌<◌, ◌+◌, ◌-◌, ◌||◌, [], ◌∷◌, ◌++◌, true, false};
 ghost use Rattle.std.specs.Prelude.{IfOk, IsTrue};
 ghost use Rattle.shared_words.specs.Meter.{IsTicketSeatOf, AreNumbersBelow};

@@ -1,3 +1,4 @@
+//! A slab that orders join one by one: which order still fits, and what the slab carries.
 ghost use Rattle.std.specs.Prelude.{◌≡◌, ◌≤◌, ◌↔◌, ◌++◌, ◌∷◌, [], List, IsTrue, true};
 ghost use Rattle.list_laws.specs.Sets.{holds};
 ghost use Rattle.mill_model.specs.Slab.{legal};

@@ -1,3 +1,4 @@
+//! The program between a reader and a writer of std, with the bytes that went through.
 ghost use Rattle.std.specs.Prelude.{◌≡◌, ◌≢◌, ◌++◌, ◌↔◌, ℕ, List, [], None, Some, IsSome};
 ghost use Rattle.std.specs.Io.KnownBytes.{Appends, Consumes};
 ghost use Rattle.mill_io.specs.Standard.{reader_of, bytes_given, read_faults, HasEnded};

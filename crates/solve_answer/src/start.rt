@@ -1,3 +1,4 @@
+//! Where a search begins: charges, rank, and a greedy plan that moves have made better.
 ghost use Rattle.std.specs.Prelude.{◌≡◌, ◌≤◌, ◌+◌, All, List, IfOk, length};
 ghost use Rattle.mill_model.specs.Charges.{Reaches, charge_of};
 ghost use Rattle.mill_model.specs.Heavy.{NoneHeavy};

@@ -1,3 +1,4 @@
+//! The owner's end of a deque: it pushes, pops, and lends shares to thieves.
 ghost use Rattle.std.specs.Prelude.{◌≡◌, ◌≤◌, ◌+◌, ◌-◌, [], ◌∷◌, ◌++◌, true, length};
 ghost use Rattle.std.specs.Prelude.{IfOk, IfErr, IfSome, IfNone, OnErr, OnOk};
 ghost use Rattle.crossbeam_deque.specs.Handles.{worker_flavor, worker_view};

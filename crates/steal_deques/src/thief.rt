@@ -1,3 +1,4 @@
+//! A thief's end of a deque: it steals.
 ghost use Rattle.std.specs.Prelude.{◌≡◌, ◌⊎◌, [], ◌∷◌, ◌++◌, true, IfSome, IfNone};
 ghost use Rattle.mill_model.specs.Tree.{in_tree};
 ghost use Rattle.mill_io.specs.Causes.{one_more};

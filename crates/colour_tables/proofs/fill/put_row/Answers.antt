@@ -1,3 +1,4 @@
+-- Inside the row stands the table of the run; outside of it the rows are as they were.
 use Rattle.std.proofs.Common.{ℕ, ◌≡◌, ◌+◌, ◌-◌, ◌*◌, ◌<◌, ◌≤◌, ◌⊎◌, ◌∷◌, [], ◌∙◌, length, sym}
 use Rattle.std.proofs.Common.{subst, arith, rules, inl, inr, None}
 use Rattle.set_minima.specs.Packs.{IsTable, IsBest}

@@ -1,3 +1,4 @@
+-- Colour by colour: the least is over the sets with an order of one of the colours so far.
 use Rattle.std.proofs.Common.{◌≡◌, ◌+◌, ◌<◌, ◌∷◌, [], ◌∙◌, length, take, neg_ℤ, sym, subst}
 use Rattle.std.proofs.Common.{SFits, w64, to_z, to_z-of_z, rules}
 use Rattle.std.proofs.lemmas.List.{take_all}

@@ -1,3 +1,4 @@
+-- In each case of the slab's colours a table has the best of the sets that may join it.
 use Rattle.std.proofs.Common.{◌∷◌, [], length, sym, subst, arith, SFits, w64, to_z-of_z, rules}
 use Rattle.set_minima.specs.Packs.{IsTable}
 use Rattle.set_minima.specs.Joins.{all_places, IsSlab}

@@ -1,3 +1,4 @@
+-- The order joins the slab first: in each case a table has the best of the sets that may follow it.
 use Rattle.std.proofs.Common.{◌≡◌, ◌+◌, ◌∷◌, [], ◌∙◌, true, false, eqb, ne_eqb, length, get_or, sym}
 use Rattle.std.proofs.Common.{subst, ap, arith, SFits, w64, to_z-of_z, rules, inl, inr}
 use Rattle.list_laws.specs.Sets.{holds}

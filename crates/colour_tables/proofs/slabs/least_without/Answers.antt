@@ -1,3 +1,4 @@
+-- In each case of the slab's colours a table has the best of the sets without the order.
 use Rattle.std.proofs.Common.{◌≡◌, ◌∷◌, [], ◌∙◌, true, eqb, ne_eqb, length, sym, subst, ap, arith}
 use Rattle.std.proofs.Common.{SFits, w64, to_z-of_z, rules, inl, inr}
 use Rattle.list_laws.specs.Sets.{holds}

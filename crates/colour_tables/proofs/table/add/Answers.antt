@@ -1,3 +1,4 @@
+-- Four loads at a time, from the top: the order is let in above, and the loads below are as before.
 use Rattle.std.proofs.Common.{ℕ, ◌≡◌, ◌+◌, ◌-◌, ◌*◌, ◌/◌, ◌<◌, ◌≤◌, ◌∙◌, get_or, length, pos, refl}
 use Rattle.std.proofs.Common.{SFits, w64, to_z-of_z, rules, arith}
 use Rattle.std.proofs.lemmas.List.{length-take-le}

@@ -1,3 +1,4 @@
+-- All four are read before any is written, so each is bettered by what a lower load had before.
 use Rattle.set_minima.proofs.CellNumbers.{near-wider}
 use Rattle.std.proofs.Common.{ℕ, ℤ, refl, ◌≡◌, ◌+◌, ◌-◌, get_or, pos, subst, SFits, w64, to_z-of_z}
 use Rattle.std.proofs.Common.{rules, arith}

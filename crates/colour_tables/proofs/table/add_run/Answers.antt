@@ -1,3 +1,4 @@
+-- Item by item: the table has the best of the sets of what was let in so far.
 use Rattle.std.proofs.Common.{◌≡◌, ◌+◌, ◌*◌, length, get_or, pos, arith, subst, sym}
 use Rattle.set_minima.specs.Packs.{IsTable}
 use Rattle.set_minima.specs.Cells.{cell}

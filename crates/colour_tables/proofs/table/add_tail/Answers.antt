@@ -1,3 +1,4 @@
+-- Load by load, from the top: the order is let in from here on, and the loads below are as before.
 use Rattle.std.proofs.Common.{◌≡◌, ℕ, ◌+◌, ◌-◌, ◌≤◌, ◌∙◌, ap, refl, inl, inr, get_or, pos, SFits}
 use Rattle.std.proofs.Common.{w64, to_z-of_z, rules, arith}
 use Rattle.std.proofs.lemmas.Bool.{cases_lt}

@@ -1,3 +1,4 @@
+-- Load by load: the new row stands up to here, and the three greatest are right at each load.
 use Rattle.std.proofs.Common.{ℕ, ◌≡◌, ◌≢◌, ◌+◌, ◌*◌, ◌<◌, ◌≤◌, ◌∙◌, ◌⊎◌, length, get_or, set, pos}
 use Rattle.std.proofs.Common.{SFits, w64, to_z-of_z, rules, arith, sym, refl, ap, inl, inr, subst}
 use Rattle.std.proofs.Common.{List, ℤ}

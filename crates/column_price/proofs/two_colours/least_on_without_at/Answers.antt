@@ -1,3 +1,4 @@
+-- The least slacks hold for any price of the order, so also for the one that it has.
 use Rattle.std.proofs.Common.{List, ℤ, get_or, pos, set, sym, ap, ◌∙◌, arith, SFits, w64, to_z-of_z}
 use Rattle.std.proofs.Common.{rules}
 use Rattle.std.proofs.Common.{◌≡◌, Some, None, subst}

@@ -1,3 +1,4 @@
+-- The crew begins with what the run left; what it leaves is what the machine leaves from there.
 use Rattle.std.proofs.Common.{◌≡◌, ◌++◌, sym, subst, ap}
 use Rattle.std.specs.List.{AllByRecursion}
 use Rattle.order_symmetry.specs.Ranked.{RankedOrders}

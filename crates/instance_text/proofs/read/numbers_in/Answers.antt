@@ -1,3 +1,4 @@
+-- Field by field: what was taken spells a front; a refusal is that of the first field that fails.
 use Rattle.std.proofs.Common.{ℕ, arith, subst, sym}
 use Rattle.std.proofs.lemmas.Result.{err_from_is_err_and}
 use Rattle.instance_text.specs.Reading.{Spells}

@@ -1,3 +1,4 @@
+-- A colour that the part asks for is let in now; with another the orders let in stay the same.
 use Rattle.std.proofs.Common.{◌≡◌, [], Bool, true, false, ◌&&◌, ◌||◌, not, cond, length, sym, ◌+◌}
 use Rattle.std.proofs.Common.{◌*◌}
 use Rattle.std.proofs.Common.{refl, inl, inr, arith, ◌∙◌, ℕ, List, map, ◌⊎◌, ◌<◌, ◌-◌, get_or, pos}

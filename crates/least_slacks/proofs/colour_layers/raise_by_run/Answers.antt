@@ -1,3 +1,4 @@
+-- A copy of the layer below lets the run in; load by load, the layer here is bettered by it.
 use Rattle.std.proofs.Common.{◌≡◌, ℕ, suc, ◌+◌, ◌-◌, ◌*◌, ◌<◌, ◌≤◌, ◌⊎◌, length, get_or, pos, arith}
 use Rattle.std.proofs.Common.{sym, ap, [], refl, inl, inr}
 use Rattle.std.proofs.Common.{◌∙◌, subst}

@@ -1,3 +1,4 @@
+-- The new slab is the last key: the prices are valid exactly where its least slack isn't below 0.
 use Rattle.std.proofs.Common.{◌≡◌, ◌∙◌, ◌++◌, ◌∷◌, [], List, length, take, drop, ℕ, zero, suc, refl}
 use Rattle.std.proofs.Common.{arith, rules, inl, inr, pos, ℤ}
 use Rattle.std.proofs.Common.{int_le, int_lt, true, false, sym, ap, subst, get_or, SFits, w64}

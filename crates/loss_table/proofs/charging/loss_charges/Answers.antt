@@ -1,3 +1,4 @@
+-- Size by size, load by load: the table has the charges of all loads so far.
 use Rattle.std.proofs.Common.{◌≡◌, ◌+◌, ◌<◌, ◌≤◌, ◌∙◌, length, ◌-◌, ◌++◌, ◌∷◌, [], get_or, arith}
 use Rattle.std.proofs.Common.{ap, rules}
 use Rattle.mill_model.specs.Instance.{largest}

@@ -1,3 +1,4 @@
+-- Order by order: the orders to come reach the state, and the marks so far lead to the target.
 use Rattle.std.proofs.Common.{◌≡◌, ◌+◌, ◌∙◌, get_or, set, take, subst, sym, arith}
 use Rattle.std.proofs.lemmas.List.{take_more_set, length-set}
 use Rattle.pair_split.specs.States.{IsWithin, with_order}

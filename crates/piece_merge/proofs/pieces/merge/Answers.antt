@@ -1,3 +1,4 @@
+-- The tree gives back the records that went into it, by rising path: they are those of the pieces.
 use Rattle.std.proofs.Common.{◌<◌, ◌^◌, All, length, sym, subst}
 use Rattle.std.specs.List.Sorted.{IsPermutation}
 use Rattle.std.proofs.lemmas.List.Sorted.{IsPermutation-trans}

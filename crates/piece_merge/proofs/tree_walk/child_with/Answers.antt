@@ -1,3 +1,4 @@
+-- Child by child: all that were passed have lesser labels, and labels rise.
 use Rattle.std.proofs.Common.{◌<◌, ◌∙◌, ◌++◌, ◌∷◌, [], sym}
 use Rattle.std.proofs.Common.{subst, arith}
 use Rattle.index_links.specs.Forest.{label_of}

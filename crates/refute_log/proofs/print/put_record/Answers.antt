@@ -1,3 +1,4 @@
+-- The line is put in four parts: what was put so far is a front of it, also where a part fails.
 use Rattle.std.proofs.Common.{◌∷◌, ◌++◌, ◌∙◌, [], append_assoc, flat_map, length, refl, sym}
 use Rattle.std.specs.Fmt.{decimal}
 use Rattle.line_text.specs.Numbers.{ordinal}

@@ -1,3 +1,4 @@
+-- Each colour that is noted is another one of those given, so they are no more than those.
 use Rattle.std.proofs.Common.{rules, ◌≡◌, ◌<◌, ◌≤◌, ◌+◌, ◌*◌, ◌^◌, true}
 use Rattle.std.proofs.Common.{length, get_or, arith, ap, sym, ◌∙◌}
 use Rattle.std.proofs.lemmas.Option.{slice_get-get_or}

@@ -1,3 +1,4 @@
+-- Job by job: deques, thieves and seats are those handed out; the rest of each is still to come.
 use Rattle.std.proofs.Common.{ap, arith, length, length-append, ◌∷◌, []}
 use Rattle.std.specs.Vec.Iter.{into_iter_items}
 use Rattle.running_worker.specs.declared.job.Job.{Job}

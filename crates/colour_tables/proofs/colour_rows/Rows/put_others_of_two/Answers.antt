@@ -1,3 +1,4 @@
+-- At each load the better of two: the greatest but for the rows of c and d, and the table of c.
 use Rattle.std.proofs.Common.{ℕ, ℤ, ◌≡◌, ◌<◌, length, map, arith}
 use Rattle.std.specs.Int.{int_max}
 use Rattle.colour_tables.specs.Entries.{entry}

@@ -1,3 +1,4 @@
+-- At first the table is the row of d, the best of the sets of d alone; the run of c is let in then.
 use Rattle.std.proofs.Common.{◌+◌, ◌∷◌, [], ◌||◌, length, arith, subst, sym, get_or, pos, refl}
 use Rattle.set_minima.specs.Packs.{IsTable}
 use Rattle.set_minima.specs.Cells.{cell, IsNear}

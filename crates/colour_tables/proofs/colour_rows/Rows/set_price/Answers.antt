@@ -1,3 +1,4 @@
+-- One row changes: it becomes the table of the colour without the order, with the order let in.
 use Rattle.std.proofs.Common.{ℕ, ℤ, List, ◌≡◌, ◌+◌, ◌*◌, ◌<◌, ◌≤◌, ◌⊎◌, ◌∙◌, length, ap, sym, subst}
 use Rattle.std.proofs.Common.{refl, arith, get_or, pos, SFits, w64, to_z-of_z, rules}
 use Rattle.std.specs.Vec.{with_items}

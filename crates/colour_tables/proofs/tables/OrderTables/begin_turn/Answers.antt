@@ -1,3 +1,4 @@
+-- The order's colour is one of those that the tables know, so its run gives the tables of the turn.
 use Rattle.std.proofs.Common.{ℕ, ◌≡◌, ◌∙◌, ◌+◌, ◌<◌, true, false, map, length, get_or, refl, sym}
 use Rattle.std.proofs.Common.{ap, subst, rules}
 use Rattle.std.proofs.Common.{eqb, eq-eqb}

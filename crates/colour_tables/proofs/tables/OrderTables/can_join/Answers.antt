@@ -1,3 +1,4 @@
+-- Where weight or colours refuse the order, no set that holds it may join the slab.
 use Rattle.std.proofs.Common.{ℕ, ◌≡◌, ◌-◌, ◌≤◌, true, None, map, length, get_or, set, sym}
 use Rattle.std.proofs.Common.{ap, subst, arith}
 use Rattle.mill_model.specs.declared.order.Order.{Order}

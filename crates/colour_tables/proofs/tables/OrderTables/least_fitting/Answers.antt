@@ -1,3 +1,4 @@
+-- The best of the sets beside the order are in the turn's table, up to the room that it leaves.
 use Rattle.std.proofs.Common.{pos, ◌+◌, ◌-◌, ◌≤◌, ◌∷◌, [], ℕ, get_or, length, sym, ap, subst, arith}
 use Rattle.std.proofs.Common.{◌≡◌, take, drop}
 use Rattle.std.proofs.Common.{SFits, w64, to_z-of_z, rules}

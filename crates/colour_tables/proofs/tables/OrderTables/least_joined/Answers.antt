@@ -1,3 +1,4 @@
+-- What holds of rows and runs holds of the orders: the charges begin at the load with the order.
 use Rattle.std.proofs.Common.{◌≤◌, pos, ◌≡◌, ◌+◌, ◌-◌, ℕ, get_or, length, sym, subst, arith}
 use Rattle.std.proofs.Common.{SFits, w64, to_z-of_z, rules, take, drop, ap}
 use Rattle.mill_model.specs.Charges.{charge_of}

@@ -1,3 +1,4 @@
+-- What holds of the rows and runs holds of the orders: the charges begin at the slab's load.
 use Rattle.std.proofs.Common.{not, ◌≤◌, pos, ◌≡◌, ◌+◌, ◌-◌, ℕ, get_or, length, sym, subst, arith}
 use Rattle.std.proofs.Common.{SFits, w64, to_z-of_z, rules, take}
 use Rattle.mill_model.specs.Charges.{charge_of}

@@ -1,3 +1,4 @@
+-- The price changes in the list, in the run and in the row, so all three go by the same prices.
 use Rattle.std.proofs.Common.{◌<◌, ◌∷◌, [], ◌≡◌, ◌∙◌, true, get_or, length, set, ◌+◌, sym, ap}
 use Rattle.std.proofs.Common.{subst, arith, SFits}
 use Rattle.std.proofs.Common.{w64, to_z-of_z, rules}

@@ -1,3 +1,4 @@
+-- Order by order: a front of the list is written, and the next order is the one behind it.
 use Rattle.std.proofs.Common.{◌-◌, ◌≡◌, ◌∙◌, ◌++◌, Some, length, sym, ap, arith}
 use Rattle.std.proofs.Common.{take}
 use Rattle.std.proofs.Math.Seq.{take-length}

@@ -1,3 +1,4 @@
+-- Child by child: those that were passed have lesser labels, and the last of them is the answer.
 use Rattle.std.proofs.Common.{◌<◌, ◌≤◌, ◌≡◌, ◌∙◌, ◌++◌, ◌∷◌, [], None, sym}
 use Rattle.std.proofs.Common.{subst, ap, arith, append-nil}
 use Rattle.index_links.specs.Forest.{label_of, lesser, nodes_before}

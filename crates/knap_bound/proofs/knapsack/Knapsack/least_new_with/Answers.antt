@@ -1,3 +1,4 @@
+-- A set with the order is one without it on a slab that has the order, less the order's price.
 use Rattle.std.proofs.Common.{◌≡◌, ◌+◌, ◌<◌, ◌∙◌, [], ◌∷◌, sym, subst, get_or, pos, SFits, w64}
 use Rattle.std.proofs.Common.{to_z-of_z, rules}
 use Rattle.std.proofs.Common.{arith}

@@ -1,3 +1,4 @@
+-- A set with the order is one without it on the slab that the order joined, less the order's price.
 use Rattle.std.proofs.Common.{◌≡◌, ◌∙◌, ◌++◌, ◌∷◌, [], false, sym}
 use Rattle.std.proofs.Common.{subst, get_or}
 use Rattle.std.proofs.Common.{pos, SFits, w64, to_z-of_z, rules, ◌+◌}

@@ -1,3 +1,4 @@
+-- Row by row: the pairs of the rows so far are closed, and they come first among all pairs.
 use Rattle.std.proofs.Common.{ℕ, suc, length, arith, subst}
 use Rattle.mill_model.specs.Charges.{charge_of}
 use Rattle.mill_model.specs.Pairs.{pairs_with, pairs_below, pairs_of}

@@ -1,3 +1,4 @@
+-- Node by node in preorder: the records that were taken rise, and with those that are left are all.
 use Rattle.std.proofs.Common.{List, Option, Some, None, refl, sym, subst}
 use Rattle.std.specs.Prelude.{slice_set}
 use Rattle.mill_model.specs.declared.closing.Entry.{Entry}

@@ -1,3 +1,4 @@
+-- What the verdict promises of lengths, each kind of record has; room for a record changes no path.
 use Rattle.std.proofs.Common.{◌≡◌, Some, sym, refl, ap, ◌∙◌}
 use Rattle.search_step.specs.Parts.{Parts}
 use Rattle.search_step.proofs.Fitting.{lengths-here, fits-better, fits-plain, fits-split}

@@ -1,3 +1,4 @@
+-- Group by group: the keys of the live groups so far. Sorting leaves them the same.
 use Rattle.std.proofs.Common.{◌≡◌, ◌++◌, ◌∷◌, [], length, ap, ◌∙◌, sym, arith, rules}
 use Rattle.std.proofs.Common.{ℕ, subst, List, map}
 use Rattle.std.specs.List.Sorted.{IsPermutation}

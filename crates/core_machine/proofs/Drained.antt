@@ -1,5 +1,5 @@
--- At the end of a machine's run a path is left only where tickets wanted: either more are drawn than
--- there are, or no deque, no held path and no waiting path is left.
+-- At the end of a machine's run a path is left only where tickets wanted: either more are drawn
+-- than there are, or no deque, no held path and no waiting path is left.
 use Rattle.std.proofs.Common.{ℕ, ◌<◌, ◌≡◌, ◌≢◌, inl, inr, Bool, true, false, not, ◌&&◌, ◌||◌, List}
 use Rattle.std.proofs.Common.{[], ◌∷◌, ◌++◌, flat_map, Option, Some, None, option_to_list, refl, ap}
 use Rattle.std.proofs.Common.{◌∙◌}

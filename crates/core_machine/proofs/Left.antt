@@ -1,5 +1,5 @@
--- What workers leave that went on from a run and came to where they may stop: a run that can be gone
--- on from, and that goes on from the given one.
+-- What workers leave that went on from a run and came to where they may stop: a run that can be
+-- gone on from, and that goes on from the given one.
 use Rattle.std.proofs.Common.{ℕ, ◌≤◌, ◌<◌, ◌≡◌, true, min, List, [], ◌∷◌, ◌++◌, length}
 use Rattle.std.proofs.Common.{refl, sym, ap, ◌∙◌, subst, arith, inl}
 use Rattle.std.specs.List.{AllByRecursion}

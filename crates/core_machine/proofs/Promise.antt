@@ -1,6 +1,6 @@
--- What workers leave where they may stop keeps the promise of a run: with the pieces and the unclosed
--- paths that they began with, no path is lost or recorded twice, each record is sound for the least
--- loss, which the best plan loses, and each ticket is a record.
+-- What workers leave where they may stop keeps the promise of a run: with the pieces and the
+-- unclosed paths that they began with, no path is lost or recorded twice, each record is sound for
+-- the least loss, which the best plan loses, and each ticket is a record.
 use Rattle.std.proofs.Common.{ℕ, suc, ◌+◌, ◌<◌, ◌≤◌, ◌≡◌, ◌≢◌, inl, inr, min, true, false, List, []}
 use Rattle.std.proofs.Common.{◌∷◌, ◌++◌, length, flat_map, get_or, Some, refl}
 use Rattle.std.proofs.lemmas.Int.{ints}
@@ -45,7 +45,8 @@ use Rattle.core_machine.specs.Kept.{MayStop, best_of}
 use Rattle.core_machine.specs.Steady.{EachWorker}
 
 -- a calm worker has no ticket for a path in work, and no plan to publish
-pub calm-at-rest : (phase : Phase) → is_calm phase ≡ true → (in_work phase ≡ 0) × (phase ≢ Publishing)
+pub calm-at-rest : (phase : Phase) → is_calm phase ≡ true →
+    (in_work phase ≡ 0) × (phase ≢ Publishing)
 calm-at-rest Resting e = (refl, λ q. absurd (cc))
 calm-at-rest Taking e = (refl, λ q. absurd (cc))
 calm-at-rest Stealing e = (refl, λ q. absurd (cc))

@@ -7,8 +7,9 @@ use Rattle.search_step.specs.Resumable.{start_of}
 use Rattle.core_machine.specs.Core.{Core, pieces_of, unclosed_of}
 use Rattle.core_machine.specs.Kept.{best_of}
 
--- The pieces of the given run come first, then those of the workers in the state that they came to.
--- The plan is the best of the given run's and theirs, and the unclosed paths are those of the state.
+-- The pieces of the given run come first, then those of the workers in the state that they came
+-- to. The plan is the best of the given run's and theirs, and the unclosed paths are those of the
+-- state.
 pub record IsLeftAfter (given : Run) (c : Core) (run : Run) : Type 0 where
   pub pieces : records_of run ≡ records_of given ++ pieces_of c
   pub unclosed : SameTimes same_list run.unclosed.items (unclosed_of c)

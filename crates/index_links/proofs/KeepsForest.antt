@@ -1,8 +1,8 @@
 -- A forest with one node more is a forest.
-use Rattle.std.proofs.Common.{ℕ, zero, suc, ◌+◌, ◌<◌, ◌≤◌, ◌^◌, ◌-◌, ◌≡◌, ◌≢◌, ◌⊎◌, Bool, true, false}
-use Rattle.std.proofs.Common.{List, [], ◌∷◌, ◌++◌, map, length, eqb, Option, Some, None, refl, sym, ap}
+use Rattle.std.proofs.Common.{ℕ, zero, suc, ◌+◌, ◌<◌, ◌≤◌, ◌^◌, ◌-◌, ◌≡◌, ◌≢◌, ◌⊎◌, Bool, true}
+use Rattle.std.proofs.Common.{List, [], ◌∷◌, ◌++◌, map, length, eqb, Option, Some, None, refl, sym}
 use Rattle.std.proofs.Common.{◌∙◌, ap₂, arith, subst, inl, inr, eq-eqb, eqb-true, ne_eqb, false-eqb}
-use Rattle.std.proofs.Common.{get_or, set, append-nil}
+use Rattle.std.proofs.Common.{false, ap, get_or, set, append-nil}
 use Rattle.std.specs.Prelude.{IfSome}
 use Rattle.std.proofs.lemmas.List.{get_or-map, get_or-set_same, get_or-set_other, length-set}
 use Rattle.std.proofs.lemmas.List.{get_or_append_left, get_or_push, length_push, length-map}
@@ -23,9 +23,9 @@ use Rattle.index_links.proofs.Views.{apart-different}
 use Rattle.index_links.proofs.Inserted.{apart-with, holds-with, leads-stay, leads-walk, leads-with}
 use Rattle.index_links.proofs.Inserted.{led, lesser-is, lesser-parts, not-lesser-is, rise-agree}
 use Rattle.index_links.proofs.Inserted.{rise-with, with-cases}
-use Rattle.index_links.proofs.WithNode.{children-count, count-with, label-old, parent-new, parent-old}
-use Rattle.index_links.proofs.WithNode.{parents-with, parts, rise-joined, same-parent, under-new}
-use Rattle.index_links.proofs.WithNode.{under-other, under-parent}
+use Rattle.index_links.proofs.WithNode.{children-count, count-with, label-old, parent-new}
+use Rattle.index_links.proofs.WithNode.{parent-old, parents-with, parts, rise-joined, same-parent}
+use Rattle.index_links.proofs.WithNode.{under-new, under-other, under-parent}
 
 module _ (f : Forest) (is : IsForest f) (parent : Option ℕ) (label : ℕ)
     (there : IsThere f parent) (free : IsFreeUnder f parent label) where
@@ -163,7 +163,8 @@ module _ (f : Forest) (is : IsForest f) (parent : Option ℕ) (label : ℕ)
 
   rise-more : (p : ℕ) → p < nodes_of more → RiseByLabel more (children_of more p)
   rise-more p l = elim (stands (Some p) l) [
-    | inl s ↦ subst (RiseByLabel more) (sym s.1) (subst (λ o. RiseByLabel (with_node f o label) (nodes_with f o label)) s.0
+    | inl s ↦ subst (RiseByLabel more) (sym s.1)
+        (subst (λ o. RiseByLabel (with_node f o label) (nodes_with f o label)) s.0
         (rise-joined f is p label (subst (IsThere f) (sym s.0) there)
         (subst (λ o. IsFreeUnder f o label) (sym s.0) free)))
     | inr r ↦ elim r [

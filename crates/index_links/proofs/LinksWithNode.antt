@@ -1,9 +1,9 @@
 -- The links once a new node was put behind another or first under its parent: they make the forest
 -- with that node.
-use Rattle.std.proofs.Common.{ℕ, zero, suc, ◌+◌, ◌<◌, ◌≤◌, ◌^◌, ◌-◌, ◌≡◌, ◌≢◌, Bool, true, false, cond}
+use Rattle.std.proofs.Common.{ℕ, zero, suc, ◌+◌, ◌<◌, ◌≤◌, ◌^◌, ◌-◌, ◌≡◌, ◌≢◌, Bool, true, false}
 use Rattle.std.proofs.Common.{List, [], ◌∷◌, ◌++◌, length, eqb, Option, Some, None, refl, sym, ap}
 use Rattle.std.proofs.Common.{◌∙◌, arith, subst, inl, inr, eq-eqb, eqb-true, ne_eqb, false-eqb}
-use Rattle.std.proofs.Common.{ap₂, get_or, set, IfSome, not}
+use Rattle.std.proofs.Common.{cond, ap₂, get_or, set, IfSome, not}
 use Rattle.std.specs.Option.{is_some as named}
 use Rattle.std.proofs.lemmas.List.{get_or_append_left, get_or_push, length_push}
 use Rattle.list_laws.specs.Sets.{holds}

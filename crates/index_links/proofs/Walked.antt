@@ -1,8 +1,8 @@
 -- A walk along the children of a node, from the first to the one behind.
 use Rattle.std.proofs.Common.{ℕ, zero, suc, ◌+◌, ◌<◌, ◌≤◌, ◌^◌, ◌-◌, ◌≡◌, ◌≢◌, Bool, true, false}
-use Rattle.std.proofs.Common.{List, [], ◌∷◌, ◌++◌, length, eqb, Option, Some, None, refl, sym, ap, ◌∙◌}
+use Rattle.std.proofs.Common.{List, [], ◌∷◌, ◌++◌, length, eqb, Option, Some, None, refl, sym, ap}
 use Rattle.std.proofs.Common.{arith, subst, inl, inr, eq-eqb, eqb-true, ne_eqb, append-nil}
-use Rattle.std.proofs.Common.{append_assoc}
+use Rattle.std.proofs.Common.{◌∙◌, append_assoc}
 use Rattle.std.specs.List.{slice_get}
 use Rattle.list_laws.specs.Sets.{holds}
 use Rattle.list_laws.proofs.Tests.{clash, either, or-cases, or-left, or-right}

@@ -1,8 +1,8 @@
 -- A forest with one node more: the label, the parent and the children of each node.
-use Rattle.std.proofs.Common.{ℕ, zero, suc, ◌+◌, ◌<◌, ◌≤◌, ◌^◌, ◌-◌, ◌≡◌, ◌≢◌, ◌⊎◌, Bool, true, false}
-use Rattle.std.proofs.Common.{List, [], ◌∷◌, ◌++◌, map, length, eqb, Option, Some, None, refl, sym, ap}
+use Rattle.std.proofs.Common.{ℕ, zero, suc, ◌+◌, ◌<◌, ◌≤◌, ◌^◌, ◌-◌, ◌≡◌, ◌≢◌, ◌⊎◌, Bool, true}
+use Rattle.std.proofs.Common.{List, [], ◌∷◌, ◌++◌, map, length, eqb, Option, Some, None, refl, sym}
 use Rattle.std.proofs.Common.{◌∙◌, ap₂, arith, subst, inl, inr, eq-eqb, eqb-true, ne_eqb, false-eqb}
-use Rattle.std.proofs.Common.{get_or, set, append-nil}
+use Rattle.std.proofs.Common.{false, ap, get_or, set, append-nil}
 use Rattle.std.specs.Prelude.{IfSome}
 use Rattle.std.proofs.lemmas.List.{get_or-map, get_or-set_same, get_or-set_other, length-set}
 use Rattle.std.proofs.lemmas.List.{get_or_append_left, get_or_push, length_push, length-map}

@@ -1,6 +1,7 @@
 -- Nodes that are linked by first child and next sibling, and the forest that they make. No public
 -- clause cites this file.
-use Rattle.std.specs.Prelude.{ℕ, zero, suc, ◌≡◌, List, [], ◌∷◌, ◌++◌, map, length, Option, Some, None}
+use Rattle.std.specs.Prelude.{ℕ, zero, suc, ◌≡◌, List, [], ◌∷◌, ◌++◌, map, length, Option, Some}
+use Rattle.std.specs.Prelude.{None}
 use Rattle.index_links.specs.Links.{last_or, look, set_at, walk}
 use Rattle.index_links.specs.Forest.{Forest, IsForest, IsThere, nodes_of, nodes_under}
 

@@ -2,7 +2,8 @@
 ghost use Rattle.std.specs.Prelude.{◌≡◌, ◌-◌, ◌<◌, ◌^◌, IfOk, IfSome, OnErr, slice_get};
 ghost use Rattle.index_links.specs.Lists.{after};
 ghost use Rattle.index_links.specs.Forest.{IsForest, IsFreeUnder, IsThere, children_of, label_of};
-ghost use Rattle.index_links.specs.Forest.{no_nodes, nodes_before, nodes_of, parent_of, siblings_of};
+ghost use Rattle.index_links.specs.Forest.{no_nodes, nodes_before, nodes_of, parent_of};
+ghost use Rattle.index_links.specs.Forest.{siblings_of};
 ghost use Rattle.index_links.specs.Forest.{with_node};
 ghost use Rattle.index_links.specs.Nodes.{last_of};
 

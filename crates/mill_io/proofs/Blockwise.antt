@@ -2,8 +2,8 @@
 use Rattle.std.proofs.Common.{◌≡◌, ◌+◌, ◌*◌, ◌++◌, ◌∙◌, ℕ, List, [], length, length-append, sym, ap}
 use Rattle.std.proofs.Common.{◌≤◌, take, drop, ap₂, take-append-drop}
 use Rattle.std.proofs.lemmas.List.{drop_all}
-use Rattle.std.proofs.Common.{Result, Ok, Err, Option, IsErr, OnOk, OnErr, refl, arith, append_assoc}
-use Rattle.std.proofs.Common.{append-nil}
+use Rattle.std.proofs.Common.{Result, Ok, Err, Option, IsErr, OnOk, OnErr, refl, arith}
+use Rattle.std.proofs.Common.{append_assoc, append-nil}
 use Rattle.std.proofs.lemmas.Bool.{false≢true}
 use Rattle.std.proofs.lemmas.Slice.{take-put_mid, drop-put_mid}
 use borrow.Rule.Slice.PartMut.{put_mid}
@@ -125,7 +125,8 @@ module _ {K : Type 0} (written held : K → Option (List ℕ)) (faults : K → �
 
   -- a text that fills a block, which is written
   pub fills-block : {T E : Type 0} (s t : K) (b p bytes : List ℕ) (r : Result T E)
-      → b ++ p ≡ bytes → length b + length p ≡ BLOCK → OnOk r (Appends (written s) (written t) bytes)
+      → b ++ p ≡ bytes → length b + length p ≡ BLOCK
+      → OnOk r (Appends (written s) (written t) bytes)
       → OnErr r (AppendsFront (written s) (written t) bytes)
       → AppendsToBoth (written s) (written t) (held s) (held t)
       → HasCause (faults s) (faults t) r

@@ -9,8 +9,8 @@ use Rattle.mill_io.specs.Causes.{HasCause}
 abbrev pub AreBlocks : List ℕ → Type 0
 AreBlocks bytes = (count : ℕ) × (length bytes ≡ count * BLOCK)
 
--- a text is put in behind the bytes that a block holds: of all these, whole blocks were written, and
--- the block holds the rest
+-- a text is put in behind the bytes that a block holds: of all these, whole blocks were written,
+-- and the block holds the rest
 pub record GoesOut (old new : Option (List ℕ)) (before after text : List ℕ) : Type 0 where
   pub out : List ℕ
   pub written : Appends old new out

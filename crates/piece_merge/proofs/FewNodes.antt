@@ -1,8 +1,8 @@
 -- A tree whose nodes stand at the empty path or at paths of a list has at most one node more than
 -- the list has paths.
-use Rattle.std.proofs.Common.{ℕ, zero, suc, ◌+◌, ◌<◌, ◌≤◌, ◌≡◌, ◌⊎◌, Bool, true, false, cond, List, []}
-use Rattle.std.proofs.Common.{◌∷◌, ◌++◌, map, length, eqb, refl, sym, ap, ◌∙◌, arith, subst, inl, inr}
-use Rattle.std.proofs.Common.{append-nil}
+use Rattle.std.proofs.Common.{ℕ, zero, suc, ◌+◌, ◌<◌, ◌≤◌, ◌≡◌, ◌⊎◌, Bool, true, false, cond}
+use Rattle.std.proofs.Common.{List, [], ◌∷◌, ◌++◌, map, length, eqb, refl, sym, ap, ◌∙◌, arith}
+use Rattle.std.proofs.Common.{subst, inl, inr, append-nil}
 use Rattle.std.proofs.lemmas.List.{length-map, map-append}
 use Rattle.list_laws.specs.Sets.{below, holds, same_list, times}
 use Rattle.list_laws.proofs.Different.{different-bounded, holds-below-lt, holds-map-from}

@@ -1,7 +1,7 @@
 -- A tree of records that grows: a child that is found or made, and a record put beside its node.
-use Rattle.std.proofs.Common.{ℕ, zero, suc, ◌+◌, ◌<◌, ◌≤◌, ◌≡◌, ◌⊎◌, Bool, true, false, cond, List, []}
+use Rattle.std.proofs.Common.{ℕ, zero, suc, ◌+◌, ◌<◌, ◌≤◌, ◌≡◌, ◌⊎◌, Bool, true, false, cond, List}
 use Rattle.std.proofs.Common.{◌∷◌, ◌++◌, length, set, take, drop, Option, Some, None, refl, sym, ap}
-use Rattle.std.proofs.Common.{◌∙◌, arith, subst, inl, inr, eqb, eqb-true, false-eqb, get_or}
+use Rattle.std.proofs.Common.{[], ◌∙◌, arith, subst, inl, inr, eqb, eqb-true, false-eqb, get_or}
 use Rattle.std.specs.List.Sorted.{IsPermutation}
 use Rattle.std.proofs.lemmas.List.{get_or-set_other, get_or-set_same, length-set, length_push}
 use Rattle.std.proofs.lemmas.List.{get_or_default, take-append-drop}
@@ -30,7 +30,8 @@ record-push [] (suc x) = refl
 record-push (r ∷ records) zero = refl
 record-push (r ∷ records) (suc x) = record-push records x
 
-pub present-push : (records : List (Option Entry)) → present (records ++ None ∷ []) ≡ present records
+pub present-push : (records : List (Option Entry)) →
+    present (records ++ None ∷ []) ≡ present records
 present-push [] = refl
 present-push (None ∷ records) = present-push records
 present-push (Some e ∷ records) = ap (λ es. e ∷ es) (present-push records)

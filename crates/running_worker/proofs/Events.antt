@@ -2,8 +2,8 @@
 -- worker was popped or stolen, what went from it was pushed, and each ticket is one more number
 -- below the budget.
 use Rattle.std.proofs.Common.{ℕ, zero, suc, ◌+◌, ◌<◌, ◌≡◌, Bool, true, false, cond, nat_lt}
-use Rattle.std.proofs.Common.{List, [], ◌∷◌, ◌++◌, length, set, get_or, count_by, Option, Some, None}
-use Rattle.std.proofs.Common.{inl, inr, refl, sym, ap, ◌∙◌, subst, arith}
+use Rattle.std.proofs.Common.{List, [], ◌∷◌, ◌++◌, length, set, get_or, count_by, Option, Some}
+use Rattle.std.proofs.Common.{None, inl, inr, refl, sym, ap, ◌∙◌, subst, arith}
 use Rattle.std.proofs.lemmas.List.Sums.{sum_by_push}
 use Rattle.list_laws.specs.Sets.{times, same_list}
 use Rattle.list_laws.proofs.Times.{times-append}
@@ -283,8 +283,8 @@ module _ (x : List ℕ) where
           tickets = h.ticket_seat.tickets ++ number_of draw ∷ [];
         }))
     draw-changes draw spends e =
-        with-tickets (Some (DrewEvent draw)) _ (record { table = refl; nodes = refl; shares = refl })
-        refl refl
+        with-tickets (Some (DrewEvent draw)) _
+        (record { table = refl; nodes = refl; shares = refl }) refl refl
         (sum_by_push (λ number. cond (nat_lt number h.meter.nodes) 1 0) h.ticket_seat.tickets
         (number_of draw) ∙ ap (λ n. drawn_below h.meter.nodes h.ticket_seat + n)
         (draw-below draw e))

@@ -1,6 +1,6 @@
 -- What a step over a running hand leaves of losses. Only a look and a publishing change what the
--- seat saw, only a look and a better plan change what the worker knows, and only the loss of its own
--- plan is published.
+-- seat saw, only a look and a better plan change what the worker knows, and only the loss of its
+-- own plan is published.
 use Rattle.std.proofs.Common.{ℕ, ◌≤◌, ◌≡◌, ◌≢◌, ◌⊎◌, inl, inr, min, true, List, [], ◌∷◌}
 use Rattle.std.proofs.Common.{◌++◌, Option, Some, None, refl, ap, ◌∙◌, arith}
 use Rattle.mill_model.specs.Charges.{ChargeTable}

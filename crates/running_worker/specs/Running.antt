@@ -1,7 +1,8 @@
 -- The hand of a running worker, and what the calls on it do: each changes and answers just what the
 -- calls on the worker's own seats and ends say.
-use Rattle.std.specs.Prelude.{ℕ, ◌+◌, ◌-◌, ◌≡◌, ◌≤◌, ◌<◌, ◌⊎◌, Bool, true, false, ◌||◌, cond, leb, ltb, min}
-use Rattle.std.specs.Prelude.{List, [], ◌∷◌, ◌++◌, length, set, get_or, All, Option, Some, None}
+use Rattle.std.specs.Prelude.{ℕ, ◌+◌, ◌-◌, ◌≡◌, ◌≤◌, ◌<◌, ◌⊎◌, Bool, true, false, ◌||◌, cond, leb}
+use Rattle.std.specs.Prelude.{ltb, min, List, [], ◌∷◌, ◌++◌, length, set, get_or, All, Option}
+use Rattle.std.specs.Prelude.{Some, None}
 use Rattle.std.specs.List.{AllByRecursion}
 use Rattle.mill_io.specs.Causes.{one_more}
 use Rattle.mill_model.specs.declared.limits.Standing.{Standing}

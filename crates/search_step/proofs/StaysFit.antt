@@ -22,10 +22,10 @@ use Rattle.order_symmetry.specs.Ranked.{RankedOrders, orders_of}
 use Rattle.refute_log.specs.Fits.{fits}
 use Rattle.split_tree.specs.Keys.{Key}
 use Rattle.nogood_store.specs.Entries.{Stored}
-use Rattle.search_step.specs.Moves.{closed, commits, drew, entry_of, exceeds, first_prices, found_at}
-use Rattle.search_step.specs.Moves.{has_lengths, is_leaf, last_of, loss_at, rested}
-use Rattle.search_step.specs.Moves.{second_prices, stole, took, verdict, verdict_inner, verdict_leaf}
-use Rattle.search_step.specs.Moves.{verdict_open}
+use Rattle.search_step.specs.Moves.{closed, commits, drew, entry_of, exceeds, first_prices}
+use Rattle.search_step.specs.Moves.{found_at, has_lengths, is_leaf, last_of, loss_at, rested}
+use Rattle.search_step.specs.Moves.{second_prices, stole, took, verdict, verdict_inner}
+use Rattle.search_step.specs.Moves.{verdict_leaf, verdict_open}
 use Rattle.search_step.specs.Parts.{Parts}
 use Rattle.search_step.specs.Promise.{AllFit}
 use Rattle.search_step.specs.Serving.{IsPathOf}

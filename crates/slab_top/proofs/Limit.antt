@@ -17,7 +17,8 @@ whole-reads None input whole = absurd whole
 whole-reads (Some limit) input whole = (refl, whole)
 
 -- ---- a command with a limit
-module _ (job : Job) (input : List ℕ) (limit : ℕ) (limited : limit_of job.command ≡ Some limit) where
+module _ (job : Job) (input : List ℕ) (limit : ℕ)
+    (limited : limit_of job.command ≡ Some limit) where
   pub reads-all : length input ≤ limit → (whole_input job input).Reads input
   reads-all within =
       subst (λ most. (input_within most input).Reads input) (sym limited) (refl, within)

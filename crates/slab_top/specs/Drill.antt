@@ -1,5 +1,5 @@
--- `drill`: it reads nothing, makes an instance from a seed, searches it as `solve` does, and sums up
--- what came of it.
+-- `drill`: it reads nothing, makes an instance from a seed, searches it as `solve` does, and sums
+-- up what came of it.
 use Rattle.std.specs.Prelude.{◌≡◌, ℕ, List, Option, Some, None}
 use Rattle.answer_text.specs.declared.answer.Answer.{Answer}
 use Rattle.answer_text.specs.declared.answer.Answer.TheVariants as answer

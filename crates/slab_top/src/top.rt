@@ -55,15 +55,18 @@ fn lets_run(command: Command) -> bool
 ///
 /// | status | where |
 /// |---|---|
-/// | 0 | an answering command wrote an optimal plan, or `drill` what one loses; or `check` or `verify` accepted the answer |
+/// | 0 | an answering command wrote an optimal plan, or `drill` what one loses |
+/// | 0 | `check` or `verify` accepted the answer |
 /// | 1 | an answering command wrote the first order that no slab holds |
 /// | 2 | the words ask for nothing that the program does |
 /// | 3 | the input was refused |
-/// | 4 | an answering command wrote a feasible plan, or `drill` what it loses: the budget was spent, and a path is left |
+/// | 4 | an answering command wrote a feasible plan, or `drill` what it loses |
 /// | 5 | a read failed; nothing was written |
 /// | 6 | a write failed; a front of the text was written |
 /// | 7 | want of memory; nothing was written |
 /// | 8 | `check` or `verify` rejected the answer |
+///
+/// At status 4 the budget was spent, and a path is left.
 pub fn run<R: Threads + Wait + Sync, S: Source, K: Sink, G: Gate>(
     rt: &R,
     alloc: Global,

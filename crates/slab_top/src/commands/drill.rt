@@ -12,8 +12,8 @@ use mill_model::OutOfMemory;
 use reply_text::{Ending, Outcome, Solution, Summary};
 use std::alloc::Global;
 
-/// Searches the instance that a job's seed gives, as `solve` does, and tells what came of it but for
-/// the plan. Nothing is read.
+/// Searches the instance that a job's seed gives, as `solve` does, and tells what came of it but
+/// for the plan. Nothing is read.
 pub fn serve<V: Searcher>(searcher: &V, alloc: Global, job: Job) -> Result<Outcome, OutOfMemory>
     requires in_range { IsInRange job }
     requires ready { V.ready searcher.now }

@@ -26,6 +26,7 @@ pub(crate) fn resume(
     ensures more { IfOk result (λ after.
         length (records_of after) ≡ length (records_of run) + limits.workers) }
 {
+    // The call brings into the proof that these are an instance's orders, in rank.
     let _orders = ranked.len();
     let mut crew = Crew::new(alloc, ranked, charges, &limits, run.loss, run.drawn)?;
     crew.give_all(run.unclosed)?;

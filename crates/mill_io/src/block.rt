@@ -1,3 +1,4 @@
+//! A text on its way into a sink: whole blocks, and the rest last.
 ghost use Rattle.std.specs.Prelude.{◌≡◌, ◌+◌, ◌<◌, ◌≤◌, [], ℕ, List, length, take, OnOk, OnErr};
 ghost use Rattle.std.specs.Io.KnownBytes.{Appends};
 ghost use Rattle.mill_io.specs.Blockwise.{PutsText};
@@ -41,8 +42,8 @@ impl Block {
         }
     }
 
-    /// Puts a piece in. A block that it fills is written whole; where that fails, the piece is
-    /// lost, but for a front that may have been written.
+    /// Puts a piece in. Each block that it fills is written whole. Where a write fails, of what the
+    /// block held and the piece behind it a front was written, and the rest is lost.
     pub fn put<K: Sink>(&mut self, sink: &mut K, piece: &[u8]) -> Result<(), Failed>
         ensures { PutsText K.written K.held K.faults sink.old sink.new
             self.old self.new piece.now result }

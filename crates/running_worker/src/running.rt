@@ -36,6 +36,7 @@ pub fn work<'a, R: Wait, G: Gate>(
     requires job { IsJobOf ranked.now round.now job }
     ensures { IfOk result (HasWorked ranked.now charges.now round.now job) }
 {
+    // The call brings into the proof that these are an instance's orders, in rank.
     let _orders = ranked.len();
     let number = job.number;
     let mut worker = Worker::new(alloc, ranked, charges, number, round.workers, round.loss);

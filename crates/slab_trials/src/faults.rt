@@ -1,5 +1,6 @@
 //! Each fault of a reader or a writer of std is told, in the middle of a stream too.
 
+use crate::small_run::THREE_ORDERS;
 use mill_io::{MemSink, MemSource};
 use slab_top::{OpenGate, run, run_streams};
 use std::io;
@@ -54,9 +55,7 @@ impl Write for LittleRoom<'_> {
     }
 }
 
-// Three orders of three colours, and what `solve` answers to them.
-const THREE_ORDERS: &[u8] = b"1 4\n3\n3\n1 1\n1 2\n2 3\n";
-
+// What `solve` answers to the three orders.
 const THEIR_ANSWER: &[u8] = b"optimal\nloss 4\nplan 1 2 1\nend\n";
 
 // The input has 20 bytes, and the read behind them finds its end. There is none behind that one.
@@ -66,7 +65,7 @@ fn each_failing_read_is_told(rt: HostRuntime) -> Result<(), Fail> {
     let words = vec![in alloc; String::from_str(alloc, "solve")?]?;
     for failing in 1..23 {
         let reader = OneReadFails {
-            bytes: THREE_ORDERS,
+            bytes: THREE_ORDERS.as_bytes(),
             reads: 0,
             failing,
         };
@@ -91,7 +90,7 @@ fn one_failing_read_or_write_in_memory_is_told(rt: HostRuntime) -> Result<(), Fa
     let alloc = rt.alloc();
     let words = vec![in alloc; String::from_str(alloc, "solve")?]?;
     for (read, write, status) in [(2u32, 0u32, 5u8), (0, 1, 6), (0, 0, 0)] {
-        let mut source = MemSource::new(alloc, THREE_ORDERS, 1, &[read])?;
+        let mut source = MemSource::new(alloc, THREE_ORDERS.as_bytes(), 1, &[read])?;
         let mut sink = MemSink::new(alloc, 4096, &[write])?;
         let mut kept = None;
         let found = run(
@@ -115,7 +114,7 @@ fn each_lack_of_room_is_told(rt: HostRuntime) -> Result<(), Fail> {
     let alloc = rt.alloc();
     let words = vec![in alloc; String::from_str(alloc, "solve")?]?;
     let rows: [(&[u8], u8, &[u8]); 4] = [
-        (THREE_ORDERS, 0, THEIR_ANSWER),
+        (THREE_ORDERS.as_bytes(), 0, THEIR_ANSWER),
         (b"1 4 1 1 4 1", 0, b"optimal\nloss 0\nplan 1\nend\n"),
         (b"1 4 1 1 5 1", 1, b"infeasible\norder 1\nend\n"),
         (b"1 4 1 x", 3, b"refused instance byte 6\n"),

@@ -1,14 +1,12 @@
 //! The run behind a feasible answer is handed out, whoever closed its paths, and else none is.
 
+use crate::small_run::{THREE_ORDERS, record_count};
 use mill_io::{MemSink, MemSource};
 use mill_model::OutOfMemory;
 use refute_log::Run;
 use slab_top::{needs_threads, run_plain};
 use std::alloc::Global;
 use std::test::Fail;
-
-// Three orders of three colours: four records refute each lesser loss than 4.
-const THREE_ORDERS: &str = "1 4\n3\n3\n1 1\n1 2\n2 3\n";
 
 // The status for words that need no threads and an input; what was kept before is let go. Other
 // words have a status here that no call ends with.
@@ -30,15 +28,6 @@ fn status_of(
     Ok(run_plain(alloc, &list, &mut source, &mut sink, kept))
 }
 
-// How many records a run has.
-fn count(run: &Run) -> usize {
-    let mut count = 0usize;
-    for piece in &run.pieces {
-        count = count.saturating_add(piece.entries().len());
-    }
-    count
-}
-
 // With one ticket the empty path is closed by the worker that the schedule names first, and by
 // worker 0 where it names none.
 #[test]
@@ -56,7 +45,7 @@ fn the_schedule_says_who_closes(rt: HostRuntime) -> Result<(), Fail> {
                 None => 0,
             };
             assert_eq!(rt; records, 1, "{schedule}");
-            assert_eq!(rt; count(run), 1, "{schedule}");
+            assert_eq!(rt; record_count(run), 1, "{schedule}");
         }
     }
     Ok(())
@@ -74,7 +63,7 @@ fn each_small_budget_is_spent(rt: HostRuntime) -> Result<(), Fail> {
         assert_eq!(rt; status, if nodes < 4 { 4 } else { 0 }, "{nodes}");
         assert_eq!(rt; kept.is_some(), nodes < 4, "{nodes}");
         if let Some(run) = &kept {
-            assert_eq!(rt; count(run), nodes, "{nodes}");
+            assert_eq!(rt; record_count(run), nodes, "{nodes}");
             assert!(rt; !run.unclosed.is_empty(), "{nodes}");
             assert_eq!(rt; run.loss, 4, "{nodes}");
         }

@@ -11,4 +11,6 @@ mod kept;
 #[cfg(test)]
 mod least;
 #[cfg(test)]
+mod small_run;
+#[cfg(test)]
 mod threads;

@@ -1,6 +1,7 @@
-//! Workers that run in threads: that they close paths beside each other, and that a gate holds a
-//! worker before it closes a path. No clause says so.
+//! Workers that run in threads: that they close paths beside each other, that a gate holds a worker
+//! before it closes a path, and that each ticket passes it once. No clause says so.
 
+use crate::small_run::{THREE_ORDERS, record_count};
 use mill_io::{MemSink, MemSource};
 use mill_model::{OutOfMemory, Path};
 use refute_log::Run;
@@ -11,10 +12,6 @@ use std::sync::Wait;
 use std::sync::atomic::{AtomicBool, AtomicU64, Ordering};
 use std::test::Fail;
 use std::thread::Threads;
-
-// Three orders of three colours. The empty path and its one child are split; the child has two
-// children.
-const THREE_ORDERS: &str = "1 4\n3\n3\n1 1\n1 2\n2 3\n";
 
 // What a call ended with, what it wrote, and the run that it handed out.
 #[derive(Drop)]
@@ -125,15 +122,6 @@ impl Gate for TillWorkerZeroCameTwice {
     }
 }
 
-// How many records a run has.
-fn count(run: &Run) -> usize {
-    let mut count = 0usize;
-    for piece in &run.pieces {
-        count = count.saturating_add(piece.entries().len());
-    }
-    count
-}
-
 // The budget is spent while one of both workers is held, and the answer is that of one worker.
 #[test]
 fn a_held_worker_changes_no_answer(rt: HostRuntime) -> Result<(), Fail> {
@@ -145,7 +133,38 @@ fn a_held_worker_changes_no_answer(rt: HostRuntime) -> Result<(), Fail> {
     let end = ended(&rt, alloc, words, THREE_ORDERS.as_bytes(), &gate)?;
     let text: &[u8] = b"feasible\nloss 4\nplan 1 2 1\nspent 3\nend\n";
     assert_eq!(rt; (end.status, end.text.as_slice()), (4, text));
-    assert_eq!(rt; end.kept.as_ref().map(count), Some(3));
+    assert_eq!(rt; end.kept.as_ref().map(record_count), Some(3));
+    Ok(())
+}
+
+// Counts how often any worker comes.
+#[derive(Drop)]
+struct CountsPasses {
+    passes: AtomicU64,
+}
+
+impl Gate for CountsPasses {
+    fn pass(&self, _worker: u16, _path: &Path) {
+        self.passes.fetch_add(1, Ordering::SeqCst);
+    }
+}
+
+// Four workers spend a budget in the middle of the tree. The gate was passed as often as tickets
+// were spent, whichever worker drew them, and not by the draws past the budget.
+#[test]
+fn each_ticket_passes_the_gate_once(rt: HostRuntime) -> Result<(), Fail> {
+    let alloc = rt.alloc();
+    for spent in 0..4u64 {
+        let gate = CountsPasses {
+            passes: AtomicU64::new(0),
+        };
+        let words = format!(in alloc; "solve --workers 4 --nodes {spent}")?;
+        let end = ended(&rt, alloc, &words, THREE_ORDERS.as_bytes(), &gate)?;
+        let told = format!(in alloc; "spent {spent}\nend\n")?;
+        assert_eq!(rt; end.status, 4, "{spent}");
+        assert!(rt; end.text.ends_with(told.as_bytes()), "{spent}");
+        assert_eq!(rt; gate.passes.load(Ordering::SeqCst), spent, "{spent}");
+    }
     Ok(())
 }
 
@@ -178,7 +197,7 @@ fn each_ticket_is_a_record(rt: HostRuntime) -> Result<(), Fail> {
             let Some(run) = &end.kept else {
                 panic!(rt; "a run is handed out");
             };
-            assert_eq!(rt; count(run), nodes, "{time} {nodes}");
+            assert_eq!(rt; record_count(run), nodes, "{time} {nodes}");
             assert!(rt; !run.unclosed.is_empty(), "{time} {nodes}");
         }
     }

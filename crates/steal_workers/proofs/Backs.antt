@@ -8,9 +8,9 @@ use Rattle.std.proofs.Common.{Some}
 use Rattle.list_laws.specs.Sets.{times, same_list}
 use Rattle.list_laws.proofs.Times.{times-append}
 use Rattle.steal_deques.specs.Deque.{Balances, DequeOwner, DequeThief}
-use Rattle.steal_workers.specs.Deques.{AreBack, AreOfAll, EndsOne, GivesOne, Hands, Home}
+use Rattle.steal_workers.specs.Deques.{AllThieves, AreBack, AreOfAll, EndsOne, GivesOne, Home}
 use Rattle.steal_workers.specs.Deques.{IsLastOfAll, IsLent}
-use Rattle.steal_workers.specs.Deques.{all_but, all_popped, all_pushed, all_stolen, hand_of}
+use Rattle.steal_workers.specs.Deques.{all_but, all_popped, all_pushed, all_stolen, thieves_of}
 use Rattle.steal_workers.specs.Deques.{home_of, homes_of}
 use Rattle.running_worker.specs.Worked.{stolen_count}
 use Rattle.core_machine.proofs.Lists.{get-other, map-length, sum-append, sum-set}
@@ -32,26 +32,26 @@ snoc-same (x ∷ xs) (y ∷ ys) a b e =
     let rest = snoc-same xs ys a b tail in
     ((λ i. head i ∷ rest.0 i), rest.1)
 
--- the last thief of a hand, where the homes of the hand end with one
-pub last-home : (hand rest : List DequeThief) (thief : DequeThief) (homes : List Home)
-    (home : Home) → homes_of hand ≡ homes ++ home ∷ [] → hand ≡ rest ++ thief ∷ [] →
+-- the last of some thieves, where their homes end with its home
+pub last-home : (thieves rest : List DequeThief) (thief : DequeThief) (homes : List Home)
+    (home : Home) → homes_of thieves ≡ homes ++ home ∷ [] → thieves ≡ rest ++ thief ∷ [] →
     (homes_of rest ≡ homes) × ((thief.deque, thief.ranked) ≡ home)
-last-home hand rest thief homes home e is =
+last-home thieves rest thief homes home e is =
     snoc-same (homes_of rest) homes (thief.deque, thief.ranked) home
     (sym (map-snoc (λ (t : DequeThief). (t.deque, t.ranked)) rest thief) ∙ sym (ap homes_of is) ∙ e)
 
-pub some-last : (hand : List DequeThief) (homes : List Home) (home : Home) →
-    homes_of hand ≡ homes ++ home ∷ [] → 0 < length hand
+pub some-last : (thieves : List DequeThief) (homes : List Home) (home : Home) →
+    homes_of thieves ≡ homes ++ home ∷ [] → 0 < length thieves
 some-last [] homes home e =
     absurd (omega (arith, ap length e, length-append homes (home ∷ [])))
-some-last (t ∷ hand) homes home e = omega arith
+some-last (t ∷ thieves) homes home e = omega arith
 
 -- the next worker gives its last thief back, or is the owner
-module _ (own0 own1 : DequeOwner) (number t : ℕ) (before now : Hands)
+module _ (own0 own1 : DequeOwner) (number t : ℕ) (before now : AllThieves)
     (so : AreBack own0 own1 number t before now) where
-  pub back-next : (own2 : DequeOwner) (next : Hands) (thief : DequeThief) →
-      t < length before → t ≢ number → hand_of now t ≡ hand_of next t ++ thief ∷ [] →
-      next ≡ set now t (hand_of next t) →
+  pub back-next : (own2 : DequeOwner) (next : AllThieves) (thief : DequeThief) →
+      t < length before → t ≢ number → thieves_of now t ≡ thieves_of next t ++ thief ∷ [] →
+      next ≡ set now t (thieves_of next t) →
       own2 ≡ record own1 {
         shares = own1.shares + 1;
         stolen = own1.stolen ++ thief.stolen;
@@ -80,23 +80,23 @@ module _ (own0 own1 : DequeOwner) (number t : ℕ) (before now : Hands)
       others-more number t n,
     );
     given = record {
-      count = ap length others ∙ length-set now t (hand_of next t) ∙ so.given.count;
+      count = ap length others ∙ length-set now t (thieves_of next t) ∙ so.given.count;
       others = given;
       later = λ i m.
-          ap (λ h. hand_of h i) others
-          ∙ get-other now t i (hand_of next t) [] (λ q. absurd (omega (arith, q, m)))
+          ap (λ h. thieves_of h i) others
+          ∙ get-other now t i (thieves_of next t) [] (λ q. absurd (omega (arith, q, m)))
           ∙ so.given.later i (omega (arith, m));
-      own = ap (λ h. hand_of h number) others
-          ∙ get-other now t number (hand_of next t) [] (λ q. n (sym q)) ∙ so.given.own;
+      own = ap (λ h. thieves_of h number) others
+          ∙ get-other now t number (thieves_of next t) [] (λ q. n (sym q)) ∙ so.given.own;
     };
     stolen = λ x. omega (
       arith,
       ap (λ (o : DequeOwner). times same_list x o.stolen) e,
       times-append same_list x own1.stolen thief.stolen,
       ap (all_stolen x) others,
-      sum-set (stolen_count x) now t (hand_of next t) [] (omega (arith, l, so.given.count)),
+      sum-set (stolen_count x) now t (thieves_of next t) [] (omega (arith, l, so.given.count)),
       ap (stolen_count x) last,
-      sum-append (λ (other : DequeThief). times same_list x other.stolen) (hand_of next t)
+      sum-append (λ (other : DequeThief). times same_list x other.stolen) (thieves_of next t)
           (thief ∷ []),
       so.stolen x,
     );
@@ -106,15 +106,15 @@ module _ (own0 own1 : DequeOwner) (number t : ℕ) (before now : Hands)
       last-or-before i m = grind arith
 
       given : (i : ℕ) → i < t + 1 → i ≢ number →
-          (thief : DequeThief) × (hand_of before i ≡ hand_of next i ++ thief ∷ [])
+          (thief : DequeThief) × (thieves_of before i ≡ thieves_of next i ++ thief ∷ [])
       given i m k = elim (last-or-before i m) [
         | inl q ↦ (thief, rw q (sym (so.given.later t (omega arith)) ∙ last))
         | inr b ↦ (
           (so.given.others i b k).0,
           (so.given.others i b k).1
               ∙ ap (λ h. h ++ (so.given.others i b k).0 ∷ [])
-              (sym (ap (λ h. hand_of h i) others
-              ∙ get-other now t i (hand_of next t) [] (λ q. absurd (omega (arith, q, b))))),
+              (sym (ap (λ h. thieves_of h i) others
+              ∙ get-other now t i (thieves_of next t) [] (λ q. absurd (omega (arith, q, b))))),
         )
       ]
 
@@ -136,19 +136,19 @@ module _ (own0 own1 : DequeOwner) (number t : ℕ) (before now : Hands)
 
   -- the next worker that isn't the owner has a thief to give back
   pub next-has : IsLastOfAll number own0 before → t < length before → t ≢ number →
-      (homes : List Home) × (homes_of (hand_of now t) ≡ homes ++ home_of own0 ∷ [])
+      (homes : List Home) × (homes_of (thieves_of now t) ≡ homes ++ home_of own0 ∷ [])
   next-has lasts l n =
       let last = lasts.others t l n in
       (last.0, ap homes_of (so.given.later t (omega arith)) ∙ last.1)
 
 -- Without the last deque each worker has a thief of every deque but its own.
-module _ (owns : List DequeOwner) (own : DequeOwner) (before : Hands)
+module _ (owns : List DequeOwner) (own : DequeOwner) (before : AllThieves)
     (has : AreOfAll (owns ++ own ∷ []) before) where
   homes-there : map home_of (owns ++ own ∷ []) ≡ map home_of owns ++ home_of own ∷ []
   homes-there = map-snoc home_of owns own
 
   other-home : (i : ℕ) → i < length before → i ≢ length owns →
-      homes_of (hand_of before i) ≡ all_but i (map home_of owns) ++ home_of own ∷ []
+      homes_of (thieves_of before i) ≡ all_but i (map home_of owns) ++ home_of own ∷ []
   other-home i l n =
       has i l ∙ ap (all_but i) homes-there
       ∙ all-but-more (map home_of owns) (home_of own) i (λ q. n (q ∙ map-length home_of owns))
@@ -156,7 +156,7 @@ module _ (owns : List DequeOwner) (own : DequeOwner) (before : Hands)
   pub last-of-all : IsLastOfAll (length owns) own before
   last-of-all = record { others = λ i l n. (all_but i (map home_of owns), other-home i l n) }
 
-  pub of-all-less : (after : Hands) → GivesOne (length owns) (length before) before after →
+  pub of-all-less : (after : AllThieves) → GivesOne (length owns) (length before) before after →
       AreOfAll owns after
   of-all-less after gives i m = elim (same-or-other i (length owns)) [
     | inl e ↦ rw e (
@@ -168,23 +168,24 @@ module _ (owns : List DequeOwner) (own : DequeOwner) (before : Hands)
         (omega (arith, map-length home_of owns))))
     | inr n ↦ (let l : i < length before = omega (arith, m, gives.count) in
         let given = gives.others i l n in
-        (last-home (hand_of before i) (hand_of after i) given.0 (all_but i (map home_of owns))
+        (last-home (thieves_of before i) (thieves_of after i) given.0 (all_but i (map home_of owns))
         (home_of own) (other-home i l n) given.1).0)
   ]
 
 -- where no deque is left no thief is
-pub none-stolen : (x : List ℕ) (hands : Hands) → AreOfAll [] hands → all_stolen x hands ≡ 0
+pub none-stolen : (x : List ℕ) (all_thieves : AllThieves) → AreOfAll [] all_thieves →
+    all_stolen x all_thieves ≡ 0
 none-stolen x [] has = refl
-none-stolen x (h ∷ hands) has =
+none-stolen x (h ∷ all_thieves) has =
     omega (
       arith,
       ap (stolen_count x) (no-thief h (has 0 (omega arith))),
-      none-stolen x hands (λ i l. has (suc i) (omega arith) ∙ none i),
+      none-stolen x all_thieves (λ i l. has (suc i) (omega arith) ∙ none i),
     )
   where
-    no-thief : (hand : List DequeThief) → homes_of hand ≡ all_but 0 [] → hand ≡ []
+    no-thief : (thieves : List DequeThief) → homes_of thieves ≡ all_but 0 [] → thieves ≡ []
     no-thief [] e = refl
-    no-thief (t ∷ hand) e = absurd (omega (arith, ap length e))
+    no-thief (t ∷ thieves) e = absurd (omega (arith, ap length e))
 
     none : (i : ℕ) → all_but {X = Home} (suc i) [] ≡ all_but i []
     none zero = refl
@@ -216,7 +217,7 @@ balanced-times pushed popped stolen left b x =
     )
 
 -- a deque of which all thieves are back has ended
-pub ends-one : (own0 own1 : DequeOwner) (number n : ℕ) (before after : Hands)
+pub ends-one : (own0 own1 : DequeOwner) (number n : ℕ) (before after : AllThieves)
     (left gone left' : List (List ℕ)) → length before ≡ n →
     AreBack own0 own1 number n before after →
     Balances own1.pushed own1.popped own1.stolen gone → left' ≡ left ++ gone →
@@ -235,7 +236,7 @@ ends-one own0 own1 number n before after left gone left' long back balances e = 
 }
 
 -- One deque after another ends, from the last.
-module _ (owns rest : List DequeOwner) (own : DequeOwner) (before : Hands) (n : ℕ)
+module _ (owns rest : List DequeOwner) (own : DequeOwner) (before : AllThieves) (n : ℕ)
     (is : owns ≡ rest ++ own ∷ []) (at : n ≡ length rest) (has : AreOfAll owns before) where
   there : AreOfAll (rest ++ own ∷ []) before
   there = subst (λ os. AreOfAll os before) is has
@@ -244,7 +245,7 @@ module _ (owns rest : List DequeOwner) (own : DequeOwner) (before : Hands) (n : 
   last-thieves =
       subst (λ k. IsLastOfAll k own before) (sym at) (last-of-all rest own before there)
 
-  pub less-thieves : (after : Hands) → GivesOne n (length before) before after →
+  pub less-thieves : (after : AllThieves) → GivesOne n (length before) before after →
       AreOfAll rest after
   less-thieves after gives =
       of-all-less rest own before there after
@@ -254,7 +255,7 @@ module _ (owns rest : List DequeOwner) (own : DequeOwner) (before : Hands) (n : 
   less-lent workers all = (All-pop (IsLent workers) owns rest (Some own) is all).0
 
   -- the sums so far go on
-  pub paths-more : (x : List ℕ) (a b : ℕ) (after : Hands) (left left' : List (List ℕ)) →
+  pub paths-more : (x : List ℕ) (a b : ℕ) (after : AllThieves) (left left' : List (List ℕ)) →
       EndsOne own n before after left left' →
       a + all_popped x owns + all_stolen x before
       ≡ times same_list x left + all_pushed x owns + b →
@@ -271,8 +272,8 @@ module _ (owns rest : List DequeOwner) (own : DequeOwner) (before : Hands) (n : 
         sum-append (λ (o : DequeOwner). times same_list x o.pushed) rest (own ∷ []),
       )
 
-pub none-left : (owns : List DequeOwner) (hands : Hands) (x : List ℕ) → length owns ≡ 0 →
-    AreOfAll owns hands →
-    (all_stolen x hands ≡ 0) × (all_popped x owns ≡ 0) × (all_pushed x owns ≡ 0)
-none-left [] hands x e has = (none-stolen x hands has, refl, refl)
-none-left (own ∷ owns) hands x e has = absurd (omega (arith, e))
+pub none-left : (owns : List DequeOwner) (all_thieves : AllThieves) (x : List ℕ) → length owns ≡ 0 →
+    AreOfAll owns all_thieves →
+    (all_stolen x all_thieves ≡ 0) × (all_popped x owns ≡ 0) × (all_pushed x owns ≡ 0)
+none-left [] all_thieves x e has = (none-stolen x all_thieves has, refl, refl)
+none-left (own ∷ owns) all_thieves x e has = absurd (omega (arith, e))

@@ -14,9 +14,9 @@ use Rattle.steal_deques.specs.Deque.{DequeOwner, DequeThief}
 use Rattle.running_worker.specs.Jobs.{IsJobOf, IsNewThief}
 use Rattle.running_worker.specs.declared.job.Job.{Job}
 use Rattle.running_worker.specs.declared.round.Round.{Round}
-use Rattle.steal_workers.specs.Deques.{AreDealt, IsLent, IsNewOwner, all_but, all_pushed, hand_of}
-use Rattle.steal_workers.specs.Deques.{hands_in, home_of, homes_of, new_thief}
-use Rattle.steal_workers.specs.Rounds.{Begins, job_hands, job_owners, job_seats, with_first}
+use Rattle.steal_workers.specs.Deques.{AreDealt, IsLent, IsNewOwner, all_but, all_pushed, home_of}
+use Rattle.steal_workers.specs.Deques.{homes_of, new_thief, thieves_in, thieves_of}
+use Rattle.steal_workers.specs.Rounds.{Begins, job_owners, job_seats, job_thieves, with_first}
 use Rattle.steal_workers.specs.Seats.{AreNew, AreSeatsOf}
 use Rattle.steal_workers.specs.Words.{IsOpened}
 use Rattle.steal_workers.specs.declared.lending.Dealt.{Dealt}
@@ -148,7 +148,7 @@ module _ (ranked : RankedOrders) (workers loss nodes : ℕ) (paths : List (List 
     (new : All (AreNew round.best round.meter) seats)
     (numbers : All (λ (job : Job). job.number < length owns) jobs)
     (their_owns : job_owners jobs ≡ owns)
-    (their_hands : job_hands jobs ≡ hands_in dealt.hands.items)
+    (their_thieves : job_thieves jobs ≡ thieves_in dealt.all_thieves.items)
     (their_seats : map job_seats jobs ≡ seats) where
   owns-count : length owns ≡ workers
   owns-count = ap length given ∙ first-count paths dealt.owns.items ∙ are.owners
@@ -166,16 +166,16 @@ module _ (ranked : RankedOrders) (workers loss nodes : ℕ) (paths : List (List 
   new-seats =
       All-same (AreNew round.best round.meter) (map job_seats jobs) seats their_seats new
 
-  hand-at : (i : ℕ) → i < workers →
-      hand_of (job_hands jobs) i ≡ all_but i (map new_thief dealt.owns.items)
-  hand-at i l =
-      ap (λ h. hand_of h i) their_hands ∙ are.thieves i (omega (arith, l, are.takers))
+  dealt-thieves : (i : ℕ) → i < workers →
+      thieves_of (job_thieves jobs) i ≡ all_but i (map new_thief dealt.owns.items)
+  dealt-thieves i l =
+      ap (λ h. thieves_of h i) their_thieves ∙ are.thieves i (omega (arith, l, are.takers))
 
   thieves-at : (k : ℕ) (d : Job) → k < length jobs →
       (get_or jobs k d).thieves.items ≡ all_but k (map new_thief dealt.owns.items)
   thieves-at k d l =
       sym (get-map (λ (job : Job). job.thieves.items) jobs k d [] l)
-      ∙ hand-at k (omega (arith, l, count))
+      ∙ dealt-thieves k (omega (arith, l, count))
 
   is-job : All (IsJobOf ranked round) jobs
   is-job k d l =
@@ -225,7 +225,7 @@ module _ (ranked : RankedOrders) (workers loss nodes : ℕ) (paths : List (List 
     lent = All-weaker (IsReady ranked workers) (IsLent workers) (λ own r. r.lent)
         (job_owners jobs) ready;
     thieves = λ i l.
-        ap homes_of (hand-at i (omega (
+        ap homes_of (dealt-thieves i (omega (
           arith,
           l,
           count,

@@ -7,7 +7,7 @@ use Rattle.std.proofs.lemmas.List.Elements.{All-push, All-same}
 use Rattle.order_symmetry.specs.Ranked.{RankedOrders}
 use Rattle.core_machine.proofs.Lists.{map-length}
 use Rattle.steal_deques.specs.Deque.{DequeOwner}
-use Rattle.steal_workers.specs.Deques.{DealsOne, Hands, HasNewThieves, IsNewOwner, all_but}
+use Rattle.steal_workers.specs.Deques.{AllThieves, DealsOne, HasNewThieves, IsNewOwner, all_but}
 use Rattle.steal_workers.specs.Deques.{new_thief, others_below}
 
 -- how many others there are
@@ -53,7 +53,7 @@ same-or-other (suc i) (suc n) = elim (same-or-other i n) [
 ]
 
 -- with one deque more, each worker has a thief of every deque but its own
-pub has-one-more : (owns : List DequeOwner) (own : DequeOwner) (before after : Hands) →
+pub has-one-more : (owns : List DequeOwner) (own : DequeOwner) (before after : AllThieves) →
     length owns < length before → HasNewThieves owns before →
     DealsOne (length owns) (length before) (new_thief own) before after →
     HasNewThieves (owns ++ own ∷ []) after
@@ -78,7 +78,7 @@ has-one-more owns own before after l has deals i m =
 module _ (owns : List DequeOwner) (own own' : DequeOwner) (ranked : RankedOrders) (workers : ℕ)
     (is : own' ≡ record own { shares = 1 }) where
   -- the new deque, with its place among the workers
-  pub dealt-more : (owns' : List DequeOwner) (before after : Hands) (number n : ℕ) →
+  pub dealt-more : (owns' : List DequeOwner) (before after : AllThieves) (number n : ℕ) →
       owns' ≡ owns ++ own' ∷ [] → length owns ≡ number → length before ≡ n → number < n →
       HasNewThieves owns before → DealsOne number n (new_thief own) before after →
       HasNewThieves owns' after

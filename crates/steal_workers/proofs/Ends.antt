@@ -25,9 +25,10 @@ use Rattle.running_worker.specs.declared.job.Job.{Job}
 use Rattle.running_worker.specs.declared.job.JobEnd.{JobEnd}
 use Rattle.running_worker.specs.declared.round.Round.{Round}
 use Rattle.steal_workers.specs.Deques.{IsLent, all_but, all_popped, all_pushed}
-use Rattle.steal_workers.specs.Deques.{all_stolen, hand_of, home_of, homes_of}
-use Rattle.steal_workers.specs.Rounds.{Begins, MayEnd, best_left, end_hands, end_owners, end_seats}
-use Rattle.steal_workers.specs.Rounds.{job_hands, job_owners, job_seats, path_left, work_left}
+use Rattle.steal_workers.specs.Deques.{all_stolen, home_of, homes_of, thieves_of}
+use Rattle.steal_workers.specs.Rounds.{Begins, MayEnd, best_left, end_owners, end_seats}
+use Rattle.steal_workers.specs.Rounds.{end_thieves, job_owners, job_seats, job_thieves, path_left}
+use Rattle.steal_workers.specs.Rounds.{work_left}
 use Rattle.steal_workers.specs.Seats.{AreSeatsOf}
 use Rattle.steal_workers.specs.Words.{IsOpened, tickets_below}
 use Rattle.steal_workers.specs.declared.seats.Seats.{Seats}
@@ -140,7 +141,7 @@ module _ (ranked : RankedOrders) (charges : ChargeTable) (round : Round) where
       sum_of (own_count x) (workers_of jobs ends h) + all_pushed x (end_owners ends)
       ≡ all_pushed x (job_owners jobs)
       + sum_of (split_count (task_at ranked charges) x) (workers_of jobs ends h)
-      + all_popped x (end_owners ends) + all_stolen x (end_hands ends)
+      + all_popped x (end_owners ends) + all_stolen x (end_thieves ends)
   all-paths x [] [] h = omega arith
   all-paths x [] (end ∷ ends) h = absurd h
   all-paths x (job ∷ jobs) [] h = absurd h
@@ -238,14 +239,14 @@ module _ (ranked : RankedOrders) (charges : ChargeTable) (round : Round) where
       let rest = thief-homes ts us h.1 in
       λ i. (deque i, orders i) ∷ rest i
 
-  hand-homes : (jobs : List Job) (ends : List JobEnd) → Worked jobs ends → (i : ℕ) →
-      homes_of (hand_of (end_hands ends) i) ≡ homes_of (hand_of (job_hands jobs) i)
-  hand-homes [] [] h i = refl
-  hand-homes [] (end ∷ ends) h i = absurd h
-  hand-homes (job ∷ jobs) [] h i = absurd h
-  hand-homes (job ∷ jobs) (end ∷ ends) h zero =
+  homes-at : (jobs : List Job) (ends : List JobEnd) → Worked jobs ends → (i : ℕ) →
+      homes_of (thieves_of (end_thieves ends) i) ≡ homes_of (thieves_of (job_thieves jobs) i)
+  homes-at [] [] h i = refl
+  homes-at [] (end ∷ ends) h i = absurd h
+  homes-at (job ∷ jobs) [] h i = absurd h
+  homes-at (job ∷ jobs) (end ∷ ends) h zero =
       thief-homes job.thieves.items end.thieves.items h.0.ends.thieves
-  hand-homes (job ∷ jobs) (end ∷ ends) h (suc i) = hand-homes jobs ends h.1 i
+  homes-at (job ∷ jobs) (end ∷ ends) h (suc i) = homes-at jobs ends h.1 i
 
   -- so the round may end
   pub may-end : (workers loss nodes : ℕ) (paths : List (List ℕ)) (jobs : List Job)
@@ -260,7 +261,7 @@ module _ (ranked : RankedOrders) (charges : ChargeTable) (round : Round) where
         lent = lent-kept (length ends) jobs ends h
             (subst (λ n. All (IsLent n) (job_owners jobs)) (sym long) begins.lent);
         thieves = λ i l.
-            hand-homes jobs ends h i
+            homes-at jobs ends h i
             ∙ begins.thieves i (omega (
               arith,
               l,

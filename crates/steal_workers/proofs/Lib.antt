@@ -1,4 +1,4 @@
-pub mod Hands
+pub mod Thieves
 pub mod Deals
 pub mod Backs
 pub mod Seatings

@@ -19,14 +19,14 @@ all_but zero (x ∷ xs) = xs
 all_but (suc place) (x ∷ xs) = x ∷ all_but place xs
 
 -- the thieves of each worker
-abbrev pub Hands : Type 0
-Hands = List (List DequeThief)
+abbrev pub AllThieves : Type 0
+AllThieves = List (List DequeThief)
 
-abbrev pub hands_in : List (Vec DequeThief Global) → Hands
-hands_in = map (λ hand. hand.items)
+abbrev pub thieves_in : List (Vec DequeThief Global) → AllThieves
+thieves_in = map (λ thieves. thieves.items)
 
-abbrev pub hand_of : Hands → ℕ → List DequeThief
-hand_of hands number = get_or hands number []
+abbrev pub thieves_of : AllThieves → ℕ → List DequeThief
+thieves_of all_thieves number = get_or all_thieves number []
 
 -- a thief that was just lent
 abbrev pub new_thief : DequeOwner → DequeThief
@@ -52,23 +52,24 @@ abbrev pub others_below : ℕ → ℕ → ℕ
 others_below number below = cond (ltb number below) (below - 1) below
 
 -- of the workers below a number, each but the owner gets one further thief
-pub record DealsOne (number below : ℕ) (thief : DequeThief) (before after : Hands) : Type 0 where
+pub record DealsOne (number below : ℕ) (thief : DequeThief) (before after : AllThieves)
+    : Type 0 where
   pub count : length after ≡ length before
   pub others : (i : ℕ) → i < below → i ≢ number →
-      hand_of after i ≡ hand_of before i ++ thief ∷ []
-  pub later : (i : ℕ) → below ≤ i → hand_of after i ≡ hand_of before i
-  pub own : hand_of after number ≡ hand_of before number
+      thieves_of after i ≡ thieves_of before i ++ thief ∷ []
+  pub later : (i : ℕ) → below ≤ i → thieves_of after i ≡ thieves_of before i
+  pub own : thieves_of after number ≡ thieves_of before number
 
 -- each worker has a new thief of every deque but its own
-abbrev pub HasNewThieves : List DequeOwner → Hands → Type 0
-HasNewThieves owns hands =
-    (i : ℕ) → i < length hands → hand_of hands i ≡ all_but i (map new_thief owns)
+abbrev pub HasNewThieves : List DequeOwner → AllThieves → Type 0
+HasNewThieves owns all_thieves =
+    (i : ℕ) → i < length all_thieves → thieves_of all_thieves i ≡ all_but i (map new_thief owns)
 
 pub record AreDealt (ranked : RankedOrders) (workers : ℕ) (dealt : Dealt) : Type 0 where
   pub owners : length dealt.owns.items ≡ workers
   pub new : All (IsNewOwner ranked workers) dealt.owns.items
-  pub takers : length (hands_in dealt.hands.items) ≡ workers
-  pub thieves : HasNewThieves dealt.owns.items (hands_in dealt.hands.items)
+  pub takers : length (thieves_in dealt.all_thieves.items) ≡ workers
+  pub thieves : HasNewThieves dealt.owns.items (thieves_in dealt.all_thieves.items)
 
 -- Which deque an end is of, and for which orders.
 abbrev pub Home : Type 0
@@ -88,17 +89,18 @@ pub record IsLent (workers : ℕ) (own : DequeOwner) : Type 0 where
   pub stolen : own.stolen ≡ []
 
 -- each worker has a thief of every deque but its own, in order
-abbrev pub AreOfAll : List DequeOwner → Hands → Type 0
-AreOfAll owns hands =
-    (i : ℕ) → i < length hands → homes_of (hand_of hands i) ≡ all_but i (map home_of owns)
+abbrev pub AreOfAll : List DequeOwner → AllThieves → Type 0
+AreOfAll owns all_thieves =
+    (i : ℕ) → i < length all_thieves →
+    homes_of (thieves_of all_thieves i) ≡ all_but i (map home_of owns)
 
 -- each worker but the owner has a thief of the deque, which is its last one
-pub record IsLastOfAll (number : ℕ) (own : DequeOwner) (hands : Hands) : Type 0 where
-  pub others : (i : ℕ) → i < length hands → i ≢ number →
-      (homes : List Home) × (homes_of (hand_of hands i) ≡ homes ++ home_of own ∷ [])
+pub record IsLastOfAll (number : ℕ) (own : DequeOwner) (all_thieves : AllThieves) : Type 0 where
+  pub others : (i : ℕ) → i < length all_thieves → i ≢ number →
+      (homes : List Home) × (homes_of (thieves_of all_thieves i) ≡ homes ++ home_of own ∷ [])
 
 -- how often a path stands among those that thieves stole, that owners pushed, and that they popped
-abbrev pub all_stolen : List ℕ → Hands → ℕ
+abbrev pub all_stolen : List ℕ → AllThieves → ℕ
 all_stolen path = sum_of (stolen_count path)
 
 abbrev pub all_pushed : List ℕ → List DequeOwner → ℕ
@@ -108,15 +110,15 @@ abbrev pub all_popped : List ℕ → List DequeOwner → ℕ
 all_popped path = sum_of (λ own. times same_list path own.popped)
 
 -- of the workers below a number, each but the owner gave back its last thief
-pub record GivesOne (number below : ℕ) (before after : Hands) : Type 0 where
+pub record GivesOne (number below : ℕ) (before after : AllThieves) : Type 0 where
   pub count : length after ≡ length before
   pub others : (i : ℕ) → i < below → i ≢ number →
-      (thief : DequeThief) × (hand_of before i ≡ hand_of after i ++ thief ∷ [])
-  pub later : (i : ℕ) → below ≤ i → hand_of after i ≡ hand_of before i
-  pub own : hand_of after number ≡ hand_of before number
+      (thief : DequeThief) × (thieves_of before i ≡ thieves_of after i ++ thief ∷ [])
+  pub later : (i : ℕ) → below ≤ i → thieves_of after i ≡ thieves_of before i
+  pub own : thieves_of after number ≡ thieves_of before number
 
 -- the owner of a deque has the shares of these thieves again, and what they stole
-pub record AreBack (own own' : DequeOwner) (number below : ℕ) (before after : Hands)
+pub record AreBack (own own' : DequeOwner) (number below : ℕ) (before after : AllThieves)
     : Type 0 where
   pub same : own' ≡ record own { shares = own'.shares; stolen = own'.stolen }
   pub shares : own'.shares ≡ 1 + others_below number below
@@ -125,7 +127,7 @@ pub record AreBack (own own' : DequeOwner) (number below : ℕ) (before after : 
       times same_list x own'.stolen + all_stolen x after ≡ all_stolen x before
 
 -- a deque has ended, and what it still held is appended to some paths
-pub record EndsOne (own : DequeOwner) (number : ℕ) (before after : Hands)
+pub record EndsOne (own : DequeOwner) (number : ℕ) (before after : AllThieves)
     (left left' : List (List ℕ)) : Type 0 where
   pub given : GivesOne number (length before) before after
   pub paths : (x : List ℕ) →

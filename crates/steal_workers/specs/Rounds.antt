@@ -15,7 +15,7 @@ use Rattle.running_worker.specs.Jobs.{IsJobOf}
 use Rattle.running_worker.specs.declared.job.Job.{Job}
 use Rattle.running_worker.specs.declared.job.JobEnd.{JobEnd}
 use Rattle.running_worker.specs.declared.round.Round.{Round}
-use Rattle.steal_workers.specs.Deques.{AreOfAll, Hands, IsLent, all_popped, all_pushed}
+use Rattle.steal_workers.specs.Deques.{AllThieves, AreOfAll, IsLent, all_popped, all_pushed}
 use Rattle.steal_workers.specs.Deques.{all_stolen}
 use Rattle.steal_workers.specs.Seats.{AreSeatsOf}
 use Rattle.steal_workers.specs.Words.{IsClosed}
@@ -32,14 +32,14 @@ end_seats end = record { loss = end.loss_seat; ticket = end.ticket_seat }
 abbrev pub job_owners : List Job → List DequeOwner
 job_owners = map (λ job. job.own)
 
-abbrev pub job_hands : List Job → Hands
-job_hands = map (λ job. job.thieves.items)
+abbrev pub job_thieves : List Job → AllThieves
+job_thieves = map (λ job. job.thieves.items)
 
 abbrev pub end_owners : List JobEnd → List DequeOwner
 end_owners = map (λ end. end.own)
 
-abbrev pub end_hands : List JobEnd → Hands
-end_hands = map (λ end. end.thieves.items)
+abbrev pub end_thieves : List JobEnd → AllThieves
+end_thieves = map (λ end. end.thieves.items)
 
 abbrev pub work_left : List JobEnd → List WorkerEnd
 work_left = map (λ end. end.left)
@@ -66,7 +66,7 @@ pub record Begins (ranked : RankedOrders) (workers : ℕ) (paths : List (List �
   pub each : All (IsJobOf ranked round) jobs
   pub seats : All (AreSeatsOf round.best round.meter) (map job_seats jobs)
   pub lent : All (IsLent workers) (job_owners jobs)
-  pub thieves : AreOfAll (job_owners jobs) (job_hands jobs)
+  pub thieves : AreOfAll (job_owners jobs) (job_thieves jobs)
   pub pushed : (x : List ℕ) → all_pushed x (job_owners jobs) ≡ times same_list x paths
 
 -- its jobs have ended, with the seats and ends that they began with
@@ -76,7 +76,7 @@ pub record MayEnd (round : Round) (ends : List JobEnd) : Type 0 where
   pub loss_shares : round.best.shares ≡ length ends
   pub ticket_shares : round.meter.shares ≡ length ends
   pub lent : All (IsLent (length ends)) (end_owners ends)
-  pub thieves : AreOfAll (end_owners ends) (end_hands ends)
+  pub thieves : AreOfAll (end_owners ends) (end_thieves ends)
 
 -- A run has the given pieces and those of the jobs' ends, the paths that these left and those of
 -- the deques, the best of the given plan and theirs, and the tickets of the round beside those
@@ -91,7 +91,7 @@ pub record HasEnded (round : Round) (pieces : List Pieced) (start : Start) (draw
   pub paths : (x : List ℕ) →
       all_pushed x (end_owners ends)
       ≡ times same_list x in_deques + all_popped x (end_owners ends)
-      + all_stolen x (end_hands ends)
+      + all_stolen x (end_thieves ends)
   pub best : start_of run ≡ best_left start (work_left ends)
   pub tickets : ℕ
   pub closed : IsClosed round.best.start round.meter.nodes (map end_seats ends) tickets

@@ -2,7 +2,7 @@
 ghost use Rattle.std.specs.Prelude.{◌≡◌, ◌≤◌, ◌<◌, ◌++◌, All, IfOk, OnOk, length, map};
 ghost use Rattle.std.specs.List.{AllByRecursion};
 ghost use Rattle.search_step.specs.Serving.{IsPathOf};
-ghost use Rattle.steal_workers.specs.Deques.{hands_in};
+ghost use Rattle.steal_workers.specs.Deques.{thieves_in};
 ghost use Rattle.steal_workers.specs.Rounds.{job_seats};
 
 use crate::lending::Dealt;
@@ -31,22 +31,22 @@ pub(crate) fn make_jobs(
     seats: Vec<Seats>,
 ) -> Result<Vec<Job>, OutOfMemory>
     requires few { length dealt.owns.items ≤ 64 }
-    requires hands { length (hands_in dealt.hands.items) ≡ length dealt.owns.items }
+    requires all_thieves { length (thieves_in dealt.all_thieves.items) ≡ length dealt.owns.items }
     requires seats { length seats.items ≡ length dealt.owns.items }
     ensures numbers { IfOk result (λ jobs. All (λ job. job.number < length dealt.owns.items)
         jobs.items) }
     ensures owns { IfOk result (λ jobs. map (λ job. job.own) jobs.items ≡ dealt.owns.items) }
-    ensures hands { IfOk result (λ jobs. map (λ job. job.thieves.items) jobs.items
-        ≡ hands_in dealt.hands.items) }
+    ensures all_thieves { IfOk result (λ jobs. map (λ job. job.thieves.items) jobs.items
+        ≡ thieves_in dealt.all_thieves.items) }
     ensures seats { IfOk result (λ jobs. map job_seats jobs.items ≡ seats.items) }
 {
-    let Dealt { owns, hands } = dealt;
+    let Dealt { owns, all_thieves } = dealt;
     let mut jobs = Vec::with_capacity(alloc, owns.len())?;
-    let mut hands = hands.into_iter();
+    let mut all_thieves = all_thieves.into_iter();
     let mut seats = seats.into_iter();
     let mut number = 0;
     for own in owns {
-        let Some(thieves) = hands.next() else {
+        let Some(thieves) = all_thieves.next() else {
             unreachable!()
         };
         let Some(Seats { loss, ticket }) = seats.next() else {

@@ -2,7 +2,7 @@
 ghost use Rattle.std.specs.Prelude.{◌≡◌, ◌≢◌, ◌<◌, ◌+◌, ◌++◌, ◌∷◌, [], All, IfOk, OnOk};
 ghost use Rattle.std.specs.Prelude.{get_or, length, map, replicate, set, vec_len};
 ghost use Rattle.steal_workers.specs.Deques.{AreDealt, IsNewOwner, IsUnlent, DealsOne};
-ghost use Rattle.steal_workers.specs.Deques.{hands_in, new_thief};
+ghost use Rattle.steal_workers.specs.Deques.{new_thief, thieves_in};
 
 use mill_model::OutOfMemory;
 use order_symmetry::Ranked;
@@ -14,7 +14,7 @@ use steal_deques::{Own, Thief, deque};
 #[derive(Drop)]
 pub(crate) struct Dealt {
     pub(crate) owns: Vec<Own>,
-    pub(crate) hands: Vec<Vec<Thief>>,
+    pub(crate) all_thieves: Vec<Vec<Thief>>,
 }
 
 /// A new deque for each worker, whose thieves are lent to all other workers.
@@ -22,52 +22,53 @@ pub(crate) fn deal(alloc: Global, ranked: &Ranked, workers: u16) -> Result<Dealt
     ensures { IfOk result (AreDealt ranked.now workers) }
 {
     let mut owns = Vec::with_capacity(alloc, usize::from(workers))?;
-    let mut hands = empty_hands(alloc, workers)?;
+    let mut all_thieves = no_thieves(alloc, workers)?;
     for number in 0..workers {
         let mut own = deque(alloc, ranked, workers)?;
-        lend_to_others(&mut own, usize::from(number), &mut hands)?;
+        lend_to_others(&mut own, usize::from(number), &mut all_thieves)?;
         owns.push(own)?;
     }
-    Ok(Dealt { owns, hands })
+    Ok(Dealt { owns, all_thieves })
 }
 
 // So many workers without a thief.
-fn empty_hands(alloc: Global, workers: u16) -> Result<Vec<Vec<Thief>>, OutOfMemory>
-    ensures { IfOk result (λ hands. hands_in hands.items ≡ replicate workers []) }
+fn no_thieves(alloc: Global, workers: u16) -> Result<Vec<Vec<Thief>>, OutOfMemory>
+    ensures { IfOk result (λ all_thieves. thieves_in all_thieves.items ≡ replicate workers []) }
 {
-    let mut hands = Vec::with_capacity(alloc, usize::from(workers))?;
+    let mut all_thieves = Vec::with_capacity(alloc, usize::from(workers))?;
     for _ in 0..workers {
-        hands.push(Vec::with_capacity(alloc, usize::from(workers))?)?;
+        all_thieves.push(Vec::with_capacity(alloc, usize::from(workers))?)?;
     }
-    Ok(hands)
+    Ok(all_thieves)
 }
 
 // Each worker but the owner, which has this number, gets a thief of the deque.
 fn lend_to_others(
     own: &mut Own,
     number: usize,
-    hands: &mut Vec<Vec<Thief>>,
+    all_thieves: &mut Vec<Vec<Thief>>,
 ) -> Result<(), OutOfMemory>
-    requires unlent { IsUnlent (vec_len hands.old) own.old }
-    requires number { number < vec_len hands.old }
+    requires unlent { IsUnlent (vec_len all_thieves.old) own.old }
+    requires number { number < vec_len all_thieves.old }
     ensures lent { OnOk result (own.new ≡ record own.old { shares = 1 }) }
-    ensures dealt { OnOk result (DealsOne number (length hands.old.items) (new_thief own.old)
-        (hands_in hands.old.items) (hands_in hands.new.items)) }
+    ensures dealt { OnOk result (DealsOne number (length all_thieves.old.items) (new_thief own.old)
+        (thieves_in all_thieves.old.items) (thieves_in all_thieves.new.items)) }
 {
-    for taker in 0..hands.len() {
+    for taker in 0..all_thieves.len() {
         if taker != number {
-            give(hands, taker, own.lend()?)?;
+            give(all_thieves, taker, own.lend()?)?;
         }
     }
     Ok(())
 }
 
 // One worker gets a further thief.
-fn give(hands: &mut Vec<Vec<Thief>>, taker: usize, thief: Thief) -> Result<(), OutOfMemory>
-    requires { taker < vec_len hands.old }
-    ensures { OnOk result (hands_in hands.new.items ≡ set (hands_in hands.old.items) taker
-        (get_or (hands_in hands.old.items) taker [] ++ thief ∷ [])) }
+fn give(all_thieves: &mut Vec<Vec<Thief>>, taker: usize, thief: Thief) -> Result<(), OutOfMemory>
+    requires { taker < vec_len all_thieves.old }
+    ensures { OnOk result (thieves_in all_thieves.new.items
+        ≡ set (thieves_in all_thieves.old.items) taker
+        (get_or (thieves_in all_thieves.old.items) taker [] ++ thief ∷ [])) }
 {
-    hands[taker].push(thief)?;
+    all_thieves[taker].push(thief)?;
     Ok(())
 }

@@ -1,6 +1,6 @@
 //! What the workers of a round give back, by what it is.
 ghost use Rattle.std.specs.Prelude.{◌≡◌, IfOk, Ok, map};
-ghost use Rattle.steal_workers.specs.Deques.{hands_in};
+ghost use Rattle.steal_workers.specs.Deques.{thieves_in};
 ghost use Rattle.steal_workers.specs.Rounds.{end_seats};
 
 use crate::seats::Seats;
@@ -14,7 +14,7 @@ use steal_deques::{Own, Thief};
 #[derive(Drop)]
 pub(crate) struct Parted {
     pub(crate) owns: Vec<Own>,
-    pub(crate) hands: Vec<Vec<Thief>>,
+    pub(crate) all_thieves: Vec<Vec<Thief>>,
     pub(crate) seats: Vec<Seats>,
     pub(crate) left: Vec<WorkerEnd>,
 }
@@ -36,18 +36,18 @@ pub(crate) fn all_ends(
 /// Takes the ends of jobs apart.
 pub(crate) fn part(alloc: Global, ends: Vec<JobEnd>) -> Result<Parted, OutOfMemory>
     ensures owns { IfOk result (λ parted. parted.owns.items ≡ map (λ end. end.own) ends.items) }
-    ensures hands { IfOk result (λ parted. hands_in parted.hands.items
+    ensures all_thieves { IfOk result (λ parted. thieves_in parted.all_thieves.items
         ≡ map (λ end. end.thieves.items) ends.items) }
     ensures seats { IfOk result (λ parted. parted.seats.items ≡ map end_seats ends.items) }
     ensures left { IfOk result (λ parted. parted.left.items ≡ map (λ end. end.left) ends.items) }
 {
     let mut owns = Vec::with_capacity(alloc, ends.len())?;
-    let mut hands = Vec::with_capacity(alloc, ends.len())?;
+    let mut all_thieves = Vec::with_capacity(alloc, ends.len())?;
     let mut seats = Vec::with_capacity(alloc, ends.len())?;
     let mut left = Vec::with_capacity(alloc, ends.len())?;
     for end in ends {
         owns.push(end.own)?;
-        hands.push(end.thieves)?;
+        all_thieves.push(end.thieves)?;
         seats.push(Seats {
             loss: end.loss_seat,
             ticket: end.ticket_seat,
@@ -56,7 +56,7 @@ pub(crate) fn part(alloc: Global, ends: Vec<JobEnd>) -> Result<Parted, OutOfMemo
     }
     Ok(Parted {
         owns,
-        hands,
+        all_thieves,
         seats,
         left,
     })

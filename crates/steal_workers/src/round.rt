@@ -153,14 +153,14 @@ fn end_round(
 {
     let Parted {
         owns,
-        hands,
+        all_thieves,
         seats,
         left,
     } = part(alloc, ends)?;
     let tickets = close_round(round, seats);
     let mut unclosed = Vec::new(alloc);
     let best = gather_work(left, &mut pieces, &mut unclosed, start)?;
-    let mut in_deques = end_deques(alloc, owns, hands)?;
+    let mut in_deques = end_deques(alloc, owns, all_thieves)?;
     unclosed.append(&mut in_deques)?;
     Ok(Run {
         pieces,

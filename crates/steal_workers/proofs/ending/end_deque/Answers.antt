@@ -1,15 +1,15 @@
 use Rattle.std.proofs.Common.{length}
-use Rattle.steal_workers.specs.Deques.{hands_in}
+use Rattle.steal_workers.specs.Deques.{thieves_in}
 use Rattle.steal_workers.proofs.Backs.{ends-one}
-use Rattle.steal_workers.proofs.Hands.{hands-length}
+use Rattle.steal_workers.proofs.Thieves.{thieves-length}
 use Rattle.steal_workers.proofs.ending.end_deque.Goals as goal
 
 pub returns : goal.returns
 returns c = record {
   ended = ends-one c.args.own c.take_all_back.new.own c.args.number
-      (length c.args.hands.now.items)
-      (hands_in c.args.hands.now.items) (hands_in c.take_all_back.new.hands.items)
+      (length c.args.all_thieves.now.items)
+      (thieves_in c.args.all_thieves.now.items) (thieves_in c.take_all_back.new.all_thieves.items)
       c.args.left.now.items c.in_ok-gathered.gathered.left.items c.append.new.self.items
-      (hands-length c.args.hands.now.items) c.take_all_back.ensures
+      (thieves-length c.args.all_thieves.now.items) c.take_all_back.ensures
       c.in_ok-gathered.ensures c.in_ok-append.ensures.items;
 }

@@ -2,7 +2,7 @@
 use Rattle.std.proofs.Common.{ap, arith, length, length-append, ◌∷◌, []}
 use Rattle.std.specs.Vec.Iter.{into_iter_items}
 use Rattle.running_worker.specs.declared.job.Job.{Job}
-use Rattle.steal_workers.specs.Deques.{hands_in}
+use Rattle.steal_workers.specs.Deques.{thieves_in}
 use Rattle.steal_workers.specs.Rounds.{job_seats}
 use Rattle.steal_workers.proofs.Begun.{all-numbered, mapped-more, number-fits}
 use Rattle.steal_workers.proofs.jobs.make_jobs.Goals as goal
@@ -33,20 +33,20 @@ loop-own-preserved c =
           c.loop-own.own-iterator.rest.items c.next.new.self.rest.items
           c.args.dealt.owns.items c.in_ok-push.ensures.items c.loop-own.invariant.owns
           c.in-Some.ensures.steps.0;
-      hands = mapped-more (λ (j : Job). j.thieves.items) c.loop-own.jobs.items
-          c.push.new.self.items job (hands_in (into_iter_items c.loop-own.hands))
-          (hands_in (into_iter_items c.next-in-loop-own.new.self))
-          (hands_in c.args.dealt.hands.items) c.in_ok-push.ensures.items
-          c.loop-own.invariant.hands (ap hands_in c.in-Some-next.ensures.items);
+      all_thieves = mapped-more (λ (j : Job). j.thieves.items) c.loop-own.jobs.items
+          c.push.new.self.items job (thieves_in (into_iter_items c.loop-own.all_thieves))
+          (thieves_in (into_iter_items c.next-in-loop-own.new.self))
+          (thieves_in c.args.dealt.all_thieves.items) c.in_ok-push.ensures.items
+          c.loop-own.invariant.all_thieves (ap thieves_in c.in-Some-next.ensures.items);
       seats = mapped-more job_seats c.loop-own.jobs.items c.push.new.self.items job
           (into_iter_items c.loop-own.seats) (into_iter_items c.next-in-loop-own-2.new.self)
           c.args.seats.items c.in_ok-push.ensures.items c.loop-own.invariant.seats
           c.in-Some-next-2.ensures.items;
-      hands_long = omega (
+      thieves_long = omega (
         arith,
         c.in-Some-next.ensures.len,
         ap length c.in-Some-next.ensures.items,
-        c.loop-own.invariant.hands_long,
+        c.loop-own.invariant.thieves_long,
       );
       seats_long = omega (
         arith,

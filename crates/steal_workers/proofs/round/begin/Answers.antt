@@ -8,4 +8,4 @@ returns-clause-jobs c =
     c.in_ok-opened.opened.seats.items c.in_ok-jobs.jobs.items c.requires.some c.requires.few
     c.in_ok-opened.ensures.round c.in_ok-dealt.ensures c.in_ok-give_first.ensures
     c.in_ok-opened.ensures.new c.in_ok-jobs.ensures.numbers c.in_ok-jobs.ensures.owns
-    c.in_ok-jobs.ensures.hands c.in_ok-jobs.ensures.seats
+    c.in_ok-jobs.ensures.all_thieves c.in_ok-jobs.ensures.seats

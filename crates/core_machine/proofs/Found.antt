@@ -27,6 +27,7 @@ use Rattle.search_step.specs.declared.parts.Phase.TheVariants.{Pushing}
 use Rattle.search_step.specs.declared.parts.Verdict.{Verdict}
 use Rattle.search_step.specs.declared.parts.Verdict.TheVariants.{Better, Plain, ByPrices, ByOther}
 use Rattle.search_step.specs.declared.parts.Verdict.TheVariants.{Open}
+use Rattle.search_step.proofs.Phases.{is-publishing}
 use Rattle.core_machine.proofs.Good.{event-honest}
 use Rattle.core_machine.proofs.Lists.{get-set, get-other}
 use Rattle.core_machine.proofs.Steady.{each-with}
@@ -34,19 +35,6 @@ use Rattle.core_machine.specs.Core.{Core, Shared, closed_held, deque, event, no_
 use Rattle.core_machine.specs.Core.{step, step_in, worker}
 use Rattle.core_machine.specs.Kept.{HasPlan, IsFound, IsGood, Knows}
 use Rattle.core_machine.specs.Steady.{IsSteady}
-
--- whether a worker is to publish
-is-publishing : (phase : Phase) → (phase ≡ Publishing) ⊎ (phase ≢ Publishing)
-is-publishing Publishing = inl refl
-is-publishing Resting = inr (λ q. absurd (cc))
-is-publishing Taking = inr (λ q. absurd (cc))
-is-publishing Stealing = inr (λ q. absurd (cc))
-is-publishing Holding = inr (λ q. absurd (cc))
-is-publishing Halting = inr (λ q. absurd (cc))
-is-publishing Ended = inr (λ q. absurd (cc))
-is-publishing Bounding = inr (λ q. absurd (cc))
-is-publishing ClosingNow = inr (λ q. absurd (cc))
-is-publishing Pushing = inr (λ q. absurd (cc))
 
 -- what a step leaves of the least loss and of what its worker knows
 record Leaves (c : Core) (w : Parts) (m : Shared × Moves) : Type 0 where

@@ -1,6 +1,6 @@
 -- A step keeps a worker at work.
-use Rattle.std.proofs.Common.{ℕ, ◌+◌, ◌≤◌, ◌≡◌, ◌≢◌, ◌⊎◌, inl, inr, nat_lt, List, []}
-use Rattle.std.proofs.Common.{All, count_by, refl, sym, ap, ◌∙◌}
+use Rattle.std.proofs.Common.{ℕ, ◌+◌, ◌≤◌, ◌≡◌, ◌≢◌, inl, inr, nat_lt, List, []}
+use Rattle.std.proofs.Common.{All, count_by, sym, ap, ◌∙◌}
 use Rattle.std.proofs.Common.{subst, arith}
 use Rattle.std.proofs.lemmas.List.Elements.{All-push, All-weaker}
 use Rattle.list_laws.specs.Sets.{times, same_list}
@@ -9,12 +9,9 @@ use Rattle.search_step.specs.Honest.{KeepsHonest}
 use Rattle.search_step.specs.Parts.{Parts}
 use Rattle.search_step.specs.Steps.{Steps, StepAt, task_at}
 use Rattle.search_step.specs.Worker.{WorkerParts}
-use Rattle.search_step.specs.declared.parts.Phase.{Phase}
-use Rattle.search_step.specs.declared.parts.Phase.TheVariants.{Resting, Taking, Stealing, Holding}
-use Rattle.search_step.specs.declared.parts.Phase.TheVariants.{Halting, Ended, Bounding}
-use Rattle.search_step.specs.declared.parts.Phase.TheVariants.{Closing as ClosingNow, Publishing}
-use Rattle.search_step.specs.declared.parts.Phase.TheVariants.{Pushing}
+use Rattle.search_step.specs.declared.parts.Phase.TheVariants.{Publishing}
 use Rattle.search_step.specs.declared.parts.Turn.{Turn}
+use Rattle.search_step.proofs.Phases.{is-publishing}
 use Rattle.search_step.proofs.StaysFit.{steps-stay-fit}
 use Rattle.shared_words.specs.Meter.{TicketMeter}
 use Rattle.core_machine.specs.Counts.{own_count, split_count, tickets_of}
@@ -23,19 +20,6 @@ use Rattle.running_worker.proofs.Losses.{LeavesLosses, TellsLoss, leaves-at, tel
 use Rattle.running_worker.specs.AtWork.{IsAtWork, StaysAtWork}
 use Rattle.running_worker.specs.Running.{Running, running_did}
 use Rattle.running_worker.specs.Worked.{HasDone, LosesAtMost, stolen_count}
-
--- whether a worker is to publish
-is-publishing : (phase : Phase) → (phase ≡ Publishing) ⊎ (phase ≢ Publishing)
-is-publishing Publishing = inl refl
-is-publishing Resting = inr (λ q. absurd (cc))
-is-publishing Taking = inr (λ q. absurd (cc))
-is-publishing Stealing = inr (λ q. absurd (cc))
-is-publishing Holding = inr (λ q. absurd (cc))
-is-publishing Halting = inr (λ q. absurd (cc))
-is-publishing Ended = inr (λ q. absurd (cc))
-is-publishing Bounding = inr (λ q. absurd (cc))
-is-publishing ClosingNow = inr (λ q. absurd (cc))
-is-publishing Pushing = inr (λ q. absurd (cc))
 
 module _ (start : ℕ) (first : Running) (w : WorkerParts) (h : Running)
     (at : IsAtWork start first w h) (turn : Turn) (became : Parts) (h' : Running)

@@ -1,3 +1,4 @@
+pub mod Phases
 pub mod Deciding
 pub mod Lasts
 pub mod Fitting

@@ -7,9 +7,10 @@ use Rattle.std.proofs.Common.{◌∙◌, subst, arith, ltb-true, ltb-false}
 use Rattle.std.specs.List.{AllByRecursion}
 use Rattle.list_laws.proofs.Tests.{either}
 use Rattle.mill_model.specs.declared.plan.Start.{Start}
+use Rattle.search_step.specs.Leaving.{better_of}
 use Rattle.search_step.specs.Parts.{Parts}
 use Rattle.core_machine.specs.Core.{no_worker}
-use Rattle.core_machine.specs.Kept.{best_of, better_of}
+use Rattle.core_machine.specs.Kept.{best_of}
 
 module _ (P : Start → Type 0) where
   better-one : (start : Start) (found : Option Start) → P start →

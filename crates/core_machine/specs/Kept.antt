@@ -1,11 +1,12 @@
 -- What a run of a machine keeps of paths, tickets and plans.
-use Rattle.std.specs.Prelude.{ℕ, ◌+◌, ◌<◌, ◌≤◌, ◌≡◌, ◌≢◌, ◌⊎◌, true, cond, ltb, min, List, []}
-use Rattle.std.specs.Prelude.{◌∷◌, length, Option, Some, None}
+use Rattle.std.specs.Prelude.{ℕ, ◌+◌, ◌<◌, ◌≤◌, ◌≡◌, ◌≢◌, ◌⊎◌, true, min, List, [], ◌∷◌}
+use Rattle.std.specs.Prelude.{length, Some}
 use Rattle.list_laws.specs.Sets.{times, same_list}
 use Rattle.mill_model.specs.Charges.{ChargeTable}
 use Rattle.mill_model.specs.declared.plan.Start.{Start}
 use Rattle.order_symmetry.specs.Ranked.{RankedOrders}
 use Rattle.search_step.specs.Honest.{IsHonest}
+use Rattle.search_step.specs.Leaving.{better_of}
 use Rattle.search_step.specs.Parts.{Parts}
 use Rattle.search_step.specs.Steps.{task_at}
 use Rattle.search_step.specs.declared.parts.Phase.TheVariants.{Publishing}
@@ -46,10 +47,6 @@ pub record IsFound (start : ℕ) (c : Core) : Type 0 where
   pub plan : (c.shared.least ≡ start) ⊎ HasPlan c c.shared.least
 
 -- of a plan and the plans that some workers keep, one that loses least, of equal ones the first
-abbrev pub better_of : Start → Option Start → Start
-better_of start None = start
-better_of start (Some other) = cond (ltb other.loss start.loss) other start
-
 abbrev pub best_of : Start → List Parts → Start
 best_of start [] = start
 best_of start (w ∷ ws) = best_of (better_of start w.best) ws

@@ -1,6 +1,5 @@
 //! A crew: workers over one hand, how they are made and given paths, and what they leave.
 ghost use Rattle.std.specs.Prelude.{◌≡◌, ◌≤◌, ◌++◌, [], All, IfOk, OnOk, map, flat_map};
-ghost use Rattle.std.specs.Prelude.{option_to_list};
 ghost use Rattle.std.specs.List.{AllByRecursion};
 ghost use Rattle.mill_model.specs.Charges.{Reaches};
 ghost use Rattle.order_symmetry.specs.Ranked.{orders_of};
@@ -8,7 +7,7 @@ ghost use Rattle.search_step.specs.Promise.{records_of};
 ghost use Rattle.search_step.specs.Resumable.{start_of};
 ghost use Rattle.search_step.specs.Serving.{IsPathOf};
 ghost use Rattle.core_machine.specs.Core.{pieces_of, unclosed_by, unclosed_of};
-ghost use Rattle.core_machine.specs.Kept.{best_of, better_of};
+ghost use Rattle.core_machine.specs.Kept.{best_of};
 ghost use Rattle.core_replay.specs.Crew.{crew_with, entries_of, parts_of};
 ghost use Rattle.core_replay.specs.Crew.{with_all_given, with_given};
 
@@ -16,7 +15,7 @@ use crate::plain_hand::PlainHand;
 use mill_model::{Charges, Limits, OutOfMemory, Path, Start};
 use order_symmetry::Ranked;
 use refute_log::{Piece, Run};
-use search_step::{Hand, Worker, WorkerEnd};
+use search_step::{Hand, Worker};
 use std::alloc::Global;
 use std::marker::Model;
 
@@ -140,36 +139,7 @@ fn end_all(
 {
     let mut best = start;
     for worker in workers {
-        let WorkerEnd {
-            piece,
-            held,
-            mut waiting,
-            best: found,
-        } = worker.finish();
-        pieces.push(piece)?;
-        push_some(unclosed, held)?;
-        unclosed.append(&mut waiting)?;
-        best = better_of(best, found);
+        best = worker.finish().add_to(pieces, unclosed, best)?;
     }
     Ok(best)
-}
-
-// Appends a path, where there is one.
-fn push_some(paths: &mut Vec<Path>, path: Option<Path>) -> Result<(), OutOfMemory>
-    ensures { OnOk result (paths.new.items ≡ paths.old.items ++ option_to_list path) }
-{
-    if let Some(path) = path {
-        paths.push(path)?;
-    }
-    Ok(())
-}
-
-// Of two plans the one that loses less.
-fn better_of(start: Start, found: Option<Start>) -> Start
-    ensures { result ≡ better_of start found }
-{
-    match found {
-        Some(found) if found.loss < start.loss => found,
-        _ => start,
-    }
 }

@@ -8,3 +8,4 @@ pub mod Worker
 pub mod Honest
 pub mod Promise
 pub mod Resumable
+pub mod Leaving

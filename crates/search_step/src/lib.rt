@@ -4,6 +4,7 @@
 mod decide;
 mod event;
 mod hand;
+mod leaving;
 mod parts;
 mod setting;
 mod steps;

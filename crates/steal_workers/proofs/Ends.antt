@@ -11,12 +11,13 @@ use Rattle.mill_model.specs.declared.closing.Entry.{Entry}
 use Rattle.mill_model.specs.declared.memory.OutOfMemory.{OutOfMemory}
 use Rattle.mill_model.specs.declared.plan.Start.{Start}
 use Rattle.order_symmetry.specs.Ranked.{RankedOrders}
+use Rattle.search_step.specs.Leaving.{better_of, paths_left}
 use Rattle.search_step.specs.Parts.{Parts}
 use Rattle.search_step.specs.Promise.{AllFit}
 use Rattle.search_step.specs.Steps.{task_at}
 use Rattle.core_machine.specs.Core.{unclosed_by}
 use Rattle.core_machine.specs.Counts.{own_count, split_count, sum_of, tickets_of}
-use Rattle.core_machine.specs.Kept.{best_of, better_of}
+use Rattle.core_machine.specs.Kept.{best_of}
 use Rattle.core_machine.proofs.Bests.{best-at-most-kept}
 use Rattle.core_machine.proofs.Lists.{map-length}
 use Rattle.steal_deques.specs.Deque.{DequeOwner, DequeThief}
@@ -27,8 +28,7 @@ use Rattle.running_worker.specs.declared.round.Round.{Round}
 use Rattle.steal_workers.specs.Deques.{IsLent, all_but, all_popped, all_pushed}
 use Rattle.steal_workers.specs.Deques.{all_stolen, home_of, homes_of, thieves_of}
 use Rattle.steal_workers.specs.Rounds.{Begins, MayEnd, best_left, end_owners, end_seats}
-use Rattle.steal_workers.specs.Rounds.{end_thieves, job_owners, job_seats, job_thieves, path_left}
-use Rattle.steal_workers.specs.Rounds.{work_left}
+use Rattle.steal_workers.specs.Rounds.{end_thieves, job_owners, job_seats, job_thieves, work_left}
 use Rattle.steal_workers.specs.Seats.{AreSeatsOf}
 use Rattle.steal_workers.specs.Words.{IsOpened, tickets_below}
 use Rattle.steal_workers.specs.declared.seats.Seats.{Seats}
@@ -117,7 +117,7 @@ module _ (ranked : RankedOrders) (charges : ChargeTable) (round : Round) where
       (pieces-left jobs ends h.1)
 
   pub paths-left : (jobs : List Job) (ends : List JobEnd) (h : Worked jobs ends) →
-      flat_map path_left (work_left ends) ≡ flat_map unclosed_by (workers_of jobs ends h)
+      flat_map paths_left (work_left ends) ≡ flat_map unclosed_by (workers_of jobs ends h)
   paths-left [] [] h = refl
   paths-left [] (end ∷ ends) h = absurd h
   paths-left (job ∷ jobs) [] h = absurd h

@@ -1,15 +1,15 @@
 -- A round of new workers: what they begin with, what they end with, and what a run is then.
 use Rattle.std.specs.Prelude.{◌≡◌, ◌<◌, ◌+◌, ◌-◌, ◌^◌, ℕ, List, [], ◌∷◌, ◌++◌, All, flat_map}
-use Rattle.std.specs.Prelude.{length, map, min, option_to_list}
+use Rattle.std.specs.Prelude.{length, map, min}
 use Rattle.list_laws.specs.Sets.{times, same_list}
 use Rattle.mill_model.specs.declared.plan.Start.{Start}
 use Rattle.order_symmetry.specs.Ranked.{RankedOrders}
 use Rattle.refute_log.specs.Pieces.{Pieced}
 use Rattle.refute_log.specs.declared.piece.Run.{Run}
+use Rattle.search_step.specs.Leaving.{better_of, paths_left}
 use Rattle.search_step.specs.Promise.{records_of}
 use Rattle.search_step.specs.Resumable.{start_of}
 use Rattle.search_step.specs.declared.worker.WorkerEnd.{WorkerEnd}
-use Rattle.core_machine.specs.Kept.{better_of}
 use Rattle.steal_deques.specs.Deque.{DequeOwner}
 use Rattle.running_worker.specs.Jobs.{IsJobOf}
 use Rattle.running_worker.specs.declared.job.Job.{Job}
@@ -49,10 +49,6 @@ abbrev pub with_first : List (List ℕ) → List DequeOwner → List DequeOwner
 with_first paths [] = []
 with_first paths (own ∷ owns) = record own { pushed = own.pushed ++ paths } ∷ owns
 
--- the paths that a worker held or let wait
-abbrev pub path_left : WorkerEnd → List (List ℕ)
-path_left end = option_to_list end.held ++ end.waiting.items
-
 -- the best of a plan and those that workers leave
 abbrev pub best_left : Start → List WorkerEnd → Start
 best_left start [] = start
@@ -87,7 +83,7 @@ pub record HasEnded (round : Round) (pieces : List Pieced) (start : Start) (draw
       records_of run
       ≡ map (λ piece. piece.entries) pieces ++ map (λ end. end.piece.entries) (work_left ends)
   pub in_deques : List (List ℕ)
-  pub unclosed : run.unclosed.items ≡ flat_map path_left (work_left ends) ++ in_deques
+  pub unclosed : run.unclosed.items ≡ flat_map paths_left (work_left ends) ++ in_deques
   pub paths : (x : List ℕ) →
       all_pushed x (end_owners ends)
       ≡ times same_list x in_deques + all_popped x (end_owners ends)

@@ -46,9 +46,9 @@ impl Refusal {
     {
         match self {
             Refusal::TooLong { limit } => put_named(sink, block, b"refused long ", limit as u64),
-            Refusal::Instance(why) => put_instance(sink, block, why),
+            Refusal::Instance(why) => put_refused_instance(sink, block, why),
             Refusal::Rest { at } => put_named(sink, block, b"refused rest byte ", at as u64),
-            Refusal::Answer(why) => put_answer(sink, block, why),
+            Refusal::Answer(why) => put_refused_answer(sink, block, why),
             Refusal::AnswerKind => block.put(sink, b"refused answer kind"),
             Refusal::Schedule { token } => {
                 put_named(sink, block, b"refused schedule token ", token)
@@ -58,7 +58,11 @@ impl Refusal {
 }
 
 // Puts in what is written where no instance is in front.
-fn put_instance<K: Sink>(sink: &mut K, block: &mut Block, why: InstanceError) -> Result<(), Failed>
+fn put_refused_instance<K: Sink>(
+    sink: &mut K,
+    block: &mut Block,
+    why: InstanceError,
+) -> Result<(), Failed>
     ensures { PutsText K.written K.held K.faults sink.old sink.new block.old block.new
         (words_of_refusal (Instance why)) result }
 {
@@ -79,7 +83,11 @@ fn put_instance<K: Sink>(sink: &mut K, block: &mut Block, why: InstanceError) ->
 }
 
 // Puts in what is written where no answer is behind the instance.
-fn put_answer<K: Sink>(sink: &mut K, block: &mut Block, why: AnswerTextError) -> Result<(), Failed>
+fn put_refused_answer<K: Sink>(
+    sink: &mut K,
+    block: &mut Block,
+    why: AnswerTextError,
+) -> Result<(), Failed>
     ensures { PutsText K.written K.held K.faults sink.old sink.new block.old block.new
         (words_of_refusal (Answer why)) result }
 {

@@ -1,6 +1,6 @@
 use Rattle.std.proofs.Common.{codes, refl}
 use Rattle.mill_io.proofs.Blockwise.{put-behind, put-fails}
-use Rattle.reply_text.proofs.refusal.put_answer.Goals as goal
+use Rattle.reply_text.proofs.refusal.put_refused_answer.Goals as goal
 
 pub returns-in_err-put_named-in-NotRising : goal.returns-in_err-put_named-in-NotRising
 returns-in_err-put_named-in-NotRising g c =

@@ -3,7 +3,7 @@ use Rattle.std.specs.Prelude.{decimal}
 use Rattle.instance_text.specs.Fields.{name_of}
 use Rattle.mill_io.proofs.Blockwise.{put-behind, put-fails, put-fails-behind}
 use Rattle.reply_text.proofs.Parts.{range-parts}
-use Rattle.reply_text.proofs.refusal.put_instance.Goals as goal
+use Rattle.reply_text.proofs.refusal.put_refused_instance.Goals as goal
 
 pub returns-in-BadByte : goal.returns-in-BadByte
 returns-in-BadByte g c = rw c.in-BadByte.is c.put_named.ensures

@@ -1,6 +1,7 @@
 -- The instance that a seed gives.
 use Rattle.std.specs.Prelude.{ℕ, zero, suc, ◌+◌, ◌*◌, ◌%◌, List, [], ◌∷◌, ◌++◌}
 use Rattle.mill_model.specs.Instance.{Problem}
+use Rattle.mill_model.specs.Small.{twenty_sizes}
 use Rattle.mill_model.specs.declared.order.Order.{Order}
 use Rattle.instance_drill.specs.Draws.{draw}
 
@@ -19,9 +20,7 @@ orders_from seed (suc count) = orders_from seed count ++ order_at seed count ∷
 
 -- the sizes of its slabs
 abbrev pub sizes : List ℕ
-sizes =
-    12 ∷ 14 ∷ 17 ∷ 18 ∷ 19 ∷ 20 ∷ 23 ∷ 24 ∷ 25 ∷ 26 ∷ 27 ∷ 28 ∷ 29 ∷ 30 ∷ 32 ∷ 35 ∷ 39 ∷ 42 ∷ 43
-    ∷ 44 ∷ []
+sizes = twenty_sizes
 
 -- the instance of so many orders, whose slabs may carry p colours
 abbrev pub drilled : ℕ → ℕ → ℕ → Problem

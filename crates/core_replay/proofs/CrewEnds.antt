@@ -5,14 +5,12 @@ use Rattle.std.proofs.Common.{append_assoc, length-append, append-nil}
 use Rattle.std.proofs.lemmas.List.{map-append}
 use Rattle.list_laws.specs.Sets.{below}
 use Rattle.mill_model.specs.Charges.{ChargeTable}
-use Rattle.mill_model.specs.declared.closing.Entry.{Entry}
 use Rattle.order_symmetry.specs.Ranked.{RankedOrders}
-use Rattle.refute_log.specs.Pieces.{Pieced}
 use Rattle.search_step.specs.Moves.{new_worker}
 use Rattle.search_step.specs.Parts.{Parts}
 use Rattle.search_step.specs.Worker.{WorkerParts}
 use Rattle.core_machine.specs.Core.{unclosed_by}
-use Rattle.core_replay.specs.Crew.{AreMembers, CrewState, IsMember, crew_with, entries_of, parts_of}
+use Rattle.core_replay.specs.Crew.{AreMembers, CrewState, IsMember, crew_with, parts_of}
 use Rattle.core_replay.specs.Crew.{with_all_given, with_given}
 use Rattle.core_replay.specs.Plain.{Plain, new_hand}
 use Rattle.core_replay.proofs.Members.{members-more}
@@ -120,28 +118,6 @@ module _ (ranked : RankedOrders) (charges : ChargeTable) (nodes loss drawn : ℕ
       d ≡ crew_with ranked charges nodes workers loss drawn paths
   all-given workers l c d paths e f =
       f ∙ ap (λ (v : CrewState). with_all_given v paths) e ∙ more-given workers l [] paths
-
--- What is taken from a worker goes over from what is left to what was taken.
-
-module _ (w : WorkerParts) (rest : List WorkerParts) where
-  pub one-more-piece : (ps : List Pieced) (p : Pieced) → p.entries ≡ w.parts.piece →
-      entries_of (ps ++ p ∷ []) ++ map (λ (v : WorkerParts). v.parts.piece) rest
-      ≡ entries_of ps ++ map (λ (v : WorkerParts). v.parts.piece) (w ∷ rest)
-  one-more-piece ps p e =
-      ap (λ l. l ++ map (λ (v : WorkerParts). v.parts.piece) rest)
-      (map-append (λ (q : Pieced). q.entries) ps (p ∷ [])
-      ∙ ap (λ (x : List Entry). entries_of ps ++ x ∷ []) e)
-      ∙ append_assoc (entries_of ps) (w.parts.piece ∷ [])
-      (map (λ (v : WorkerParts). v.parts.piece) rest)
-
-  pub one-more-unclosed : (before after : List (List ℕ)) →
-      after ≡ before ++ unclosed_by w.parts →
-      after ++ flat_map (λ (v : WorkerParts). unclosed_by v.parts) rest
-      ≡ before ++ flat_map (λ (v : WorkerParts). unclosed_by v.parts) (w ∷ rest)
-  one-more-unclosed before after e =
-      ap (λ l. l ++ flat_map (λ (v : WorkerParts). unclosed_by v.parts) rest) e
-      ∙ append_assoc before (unclosed_by w.parts)
-      (flat_map (λ (v : WorkerParts). unclosed_by v.parts) rest)
 
 -- what workers hold and let wait, taken from them or from their parts
 pub unclosed-parts : (ws : List WorkerParts) →

@@ -14,6 +14,7 @@ use Rattle.mill_model.specs.declared.order.Order.{Order}
 use Rattle.mill_model.specs.declared.order.TheConstants.{MAX_ORDERS}
 use Rattle.mill_laws.specs.PlanLaws.{EachFits}
 use Rattle.mill_laws.proofs.Ascent.{ascent-length}
+use Rattle.mill_laws.proofs.Charges.{charge-small}
 use Rattle.mill_laws.proofs.Paths.{tree-fits}
 use Rattle.mill_laws.proofs.PricesWithin.{ascent-within, sweep-within}
 use Rattle.mill_laws.proofs.Sweep.{sweep-length}
@@ -21,7 +22,6 @@ use Rattle.order_symmetry.specs.Ranked.{orders_of}
 use Rattle.order_symmetry.proofs.Limits.{few}
 use Rattle.split_tree.specs.Node.{Node, IsNode}
 use Rattle.knap_bound.specs.Later.{Later}
-use Rattle.knap_bound.proofs.SlabGains.{charge-small}
 use Rattle.column_price.specs.Nodes.{Pricing, IsAt, AreFor}
 use Rattle.column_price.specs.Nodes.{EachIsLight, are_valid}
 use Rattle.column_price.specs.Nodes.{rest_of}
@@ -75,7 +75,7 @@ module _ (node : Node) (is : IsNode node) where
           ascent-length node.ranked.mill (charge_of table) (orders_of node.ranked) node.path i;
       within =
           ascent-within node.ranked.mill (charge_of table) (orders_of node.ranked) node.path
-          (charge-small table) each-fits slabs i h;
+          (charge-small table.list table.limit) each-fits slabs i h;
     }
 
     -- each price of the ascent is within the limits of a price
@@ -103,7 +103,8 @@ module _ (node : Node) (is : IsNode node) where
           ∙ are.one_each;
       within =
           sweep-within node.ranked.mill (charge_of table) (orders_of node.ranked) node.path
-          (charge-small table) each-fits prices slabs are.one_each v are.within i h;
+          (charge-small table.list table.limit) each-fits prices slabs are.one_each v are.within i
+          h;
     }
 
     -- and so is each price of a sweep

@@ -11,6 +11,7 @@ use Rattle.list_laws.specs.Sets.{holds, different}
 use Rattle.list_laws.proofs.Different.{different-same, holds-append}
 use Rattle.list_laws.proofs.Lists.{nothing, nothing-chosen, nothing-length}
 use Rattle.list_laws.proofs.Tests.{clash}
+use Rattle.mill_laws.proofs.Charges.{charge-small}
 use Rattle.mill_laws.proofs.Slacks.{nothing-in}
 use Rattle.mill_model.specs.Bounds.{in_set}
 use Rattle.mill_model.specs.Charges.{ChargeTable, charge_of}
@@ -98,13 +99,6 @@ are-prices prices each i = elim (cases_lt i (length prices)) [
   | inr b ↦ rw (get_or_past prices i (pos 0) b) (omega (arith, ints), omega (arith, ints))
 ]
 
--- each charge is small, also past the last one
-pub charge-small : (table : ChargeTable) (l : ℕ) → charge_of table l ≤ MAX_CHARGE
-charge-small table l = elim (cases_lt l (length table.list)) [
-  | inl b ↦ table.limit l 0 b
-  | inr b ↦ rw (get_or_past table.list l 0 b) (omega arith)
-]
-
 -- a greatest gain is the gain of a set, and so not large
 pub gain-small : (P : List Bool → Type 0) (table : ChargeTable) (base : ℕ) (rest : List Order)
     (prices : List ℤ) (best : Option ℤ) → length prices ≤ MAX_ORDERS → ArePrices prices →
@@ -113,7 +107,7 @@ pub gain-small : (P : List Bool → Type 0) (table : ChargeTable) (base : ℕ) (
 gain-small P table base rest prices best few priced top v e =
     let s = top.some v e in
     let g = gain-within MAX_PRICE MAX_CHARGE (charge_of table) base rest prices s.0 priced
-    (charge-small table) in
+    (charge-small table.list table.limit) in
     within (length prices) v (gain (charge_of table) base rest prices s.0) s.2 few g.0 g.1
   where
     within : (n : ℕ) (b g : ℤ) → b ≡ g → n ≤ MAX_ORDERS →

@@ -1,15 +1,14 @@
 -- The greatest gain of the sets that may join a slab is its least slack with the other sign, and as
 -- the gain of a set it isn't large.
 use Rattle.std.proofs.Common.{ℕ, ◌+◌, ◌*◌, ◌≤◌, ◌≡◌, List, length, get_or, ℤ, pos, neg_ℤ, ◌≤ℤ◌}
-use Rattle.std.proofs.Common.{Option, Some, None, refl, All, arith, Bool, true, false, int_lt, inl}
-use Rattle.std.proofs.Common.{inr, append-nil}
+use Rattle.std.proofs.Common.{Option, Some, None, refl, All, arith, Bool, true, false, int_lt}
+use Rattle.std.proofs.Common.{append-nil}
 use Rattle.std.proofs.lemmas.Int.{ints}
-use Rattle.std.proofs.lemmas.List.{get_or_past}
-use Rattle.std.proofs.lemmas.Bool.{cases_lt}
 use Rattle.list_laws.specs.Sets.{different}
 use Rattle.mill_model.specs.Prices.{least_slack}
 use Rattle.mill_model.specs.declared.order.Order.{Order}
 use Rattle.list_laws.proofs.Lists.{nothing, nothing-chosen, nothing-length}
+use Rattle.mill_laws.proofs.Charges.{charge-small}
 use Rattle.set_minima.specs.Packs.{IsTop}
 use Rattle.set_minima.specs.Joins.{gain, Joins, IsSlab, all_places, opposite}
 use Rattle.set_minima.proofs.Gains.{gain-within}
@@ -18,14 +17,6 @@ use Rattle.mill_model.specs.declared.prices.TheConstants.{MAX_PRICE}
 use Rattle.mill_model.specs.declared.order.TheConstants.{MAX_ORDERS}
 use Rattle.mill_model.specs.declared.charges.TheConstants.{MAX_CHARGE}
 use Rattle.set_minima.specs.Cells.{found, IsSmall, ArePrices, slack_limit}
-
--- each charge is small, also past the last one
-charge-small : (charges : List ℕ) → All (λ charge. charge ≤ MAX_CHARGE) charges → (l : ℕ) →
-    get_or charges l 0 ≤ MAX_CHARGE
-charge-small charges h l = elim (cases_lt l (length charges)) [
-  | inl b ↦ h l 0 b
-  | inr b ↦ rw (get_or_past charges l 0 b) (omega arith)
-]
 
 module _ (rest : List Order) (prices : List ℤ) (charges own : List ℕ) (load largest most : ℕ)
     (best : ℤ) (fits : load ≤ largest) (few : different own ≤ most)

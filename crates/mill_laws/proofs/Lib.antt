@@ -12,6 +12,7 @@ pub mod Twin
 pub mod TreeSize
 pub mod TreeLaws
 -- prices
+pub mod Charges
 pub mod Duality
 pub mod Least
 pub mod Slacks

@@ -2,18 +2,16 @@
 -- may have. Only a closing adds a record: its verdict has the lengths, and the prices that it goes
 -- by are within the limits of a price.
 use Rattle.std.proofs.Common.{ℕ, ◌≤◌, ◌≡◌, ◌≢◌, Bool, true, false, cond, List, [], ◌∷◌, ◌++◌}
-use Rattle.std.proofs.Common.{length, Option, Some, None, refl, sym, subst, ℤ, All, inl, inr, arith}
-use Rattle.std.proofs.lemmas.Bool.{cases_lt}
-use Rattle.std.proofs.lemmas.List.{get_or_past}
+use Rattle.std.proofs.Common.{length, Option, Some, None, refl, sym, subst, ℤ, All}
 use Rattle.std.specs.List.{AllByRecursion}
 use Rattle.list_laws.proofs.Among.{each-append}
 use Rattle.mill_laws.specs.PlanLaws.{EachFits}
+use Rattle.mill_laws.proofs.Charges.{charge-small}
 use Rattle.mill_laws.proofs.PriceLaws.{ascent-prices-are-valid}
 use Rattle.mill_laws.proofs.PricesWithin.{ascent-prices-stay-within, swept-prices-stay-within}
 use Rattle.mill_model.specs.Charges.{ChargeTable, charge_of}
 use Rattle.mill_model.specs.Limits.{IsPrice}
 use Rattle.mill_model.specs.Slab.{Mill}
-use Rattle.mill_model.specs.declared.charges.TheConstants.{MAX_CHARGE}
 use Rattle.mill_model.specs.declared.limits.Draw.{Draw}
 use Rattle.mill_model.specs.declared.limits.Draw.TheVariants.{Ticket, Spent}
 use Rattle.mill_model.specs.declared.limits.Standing.{Standing}
@@ -45,13 +43,6 @@ use Rattle.search_step.specs.declared.parts.Verdict.TheVariants.{Open}
 use Rattle.search_step.proofs.Fitting.{fits-better, fits-other, fits-plain, fits-priced, fits-split}
 use Rattle.search_step.proofs.Lengths.{verdict-lengths}
 
--- each charge is small, also past the last one
-charge-small : (table : ChargeTable) (load : ℕ) → charge_of table load ≤ MAX_CHARGE
-charge-small table load = elim (cases_lt load (length table.list)) [
-  | inl b ↦ table.limit load 0 b
-  | inr b ↦ rw (get_or_past table.list load 0 b) (omega arith)
-]
-
 module _ (ranked : RankedOrders) (charges : ChargeTable) (mill : FitsMill ranked charges)
     (path : List ℕ) (tree : IsPathOf ranked path) where
   some-colour : 1 ≤ ranked.mill.most_colours
@@ -65,12 +56,12 @@ module _ (ranked : RankedOrders) (charges : ChargeTable) (mill : FitsMill ranked
   first-within : All IsPrice (first_prices (task_at ranked charges) path)
   first-within =
       ascent-prices-stay-within ranked.mill (charge_of charges) (orders_of ranked) path
-      (charge-small charges) tree.is each-fits
+      (charge-small charges.list charges.limit) tree.is each-fits
 
   second-within : All IsPrice (second_prices (task_at ranked charges) path)
   second-within =
       swept-prices-stay-within ranked.mill (charge_of charges) (orders_of ranked) path
-      (first_prices (task_at ranked charges) path) (charge-small charges) tree.is each-fits
+      (first_prices (task_at ranked charges) path) (charge-small charges.list charges.limit) tree.is each-fits
       (ascent-prices-are-valid ranked.mill (charge_of charges) (orders_of ranked) path tree.is)
       first-within
 

@@ -17,9 +17,9 @@
 #   near N    behind N orders that leave nearly a whole slab, each with a colour of its own that
 #             comes again: a table costs twice as much as under own, but each sibling on the way
 #             needs a record, too
-#   crossed   one record behind 153 groups of two orders and two colours each, all pairs of 18 colours
-#             that come again: the tables of two groups differ by one colour at least. The records of
-#             the other paths are left out, so the log is refused after this one
+#   crossed   one record behind 153 groups of two orders and two colours each, all pairs of 18
+#             colours that come again: the tables of two groups differ by one colour at least. The
+#             records of the other paths are left out, so the log is refused after this one
 . "$(dirname "$0")/workspace.sh"
 
 product
@@ -52,7 +52,9 @@ write_case() {
         } else {
             depth = 512;
             for (i = 1; i <= 512; i++) order((name == "heavy" ? 19001 : 10513) - i, i);
-            for (i = 1; i <= 512; i++) order(name == "heavy" ? 3 : 40, name == "heavy" ? 600 + i : i);
+            for (i = 1; i <= 512; i++) {
+                if (name == "heavy") order(3, 600 + i); else order(40, i);
+            }
         }
         path = "";
         for (d = 0; d < depth; d++) {

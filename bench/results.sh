@@ -15,7 +15,8 @@
 build_maker
 product
 
-echo "sizes colours orders optimal loss_0 one_node mean_loss nodes most_nodes ms_optimal ms_feasible"
+echo "sizes colours orders optimal loss_0 one_node mean_loss nodes most_nodes ms_optimal" \
+    "ms_feasible"
 for sizes in "drill" "20 33 44" "30 45"; do
     for colours in 1 2; do
         for orders in 10 12 14 16 20 30 40; do

@@ -2,14 +2,15 @@
 # What makes the start of a search: what first fit, the better of both greedy plans, moves on pairs
 # and the walk leave of the loss, and what they take.
 #
-# First the instances of the generator of `drill` with 40 to 1024 orders, a row for each: the orders,
-# the seed, the loss of the first-fit plan, of the better greedy plan, after the moves, and after
-# the walk with the moves behind it; the milliseconds of first fit, of the moves, and of the
+# First the instances of the generator of `drill` with 40 to 1024 orders, a row for each: the
+# orders, the seed, the loss of the first-fit plan, of the better greedy plan, after the moves, and
+# after the walk with the moves behind it; the milliseconds of first fit, of the moves, and of the
 # walk with the moves behind it; and the time of both together over that of first fit.
 #
 # Then families with few sizes, ten instances of 111 orders each, weights up to 22 and 20 colours, a
-# row for each family: its sizes; the means of the losses in the same columns, with the least and the
-# greatest after the moves and after the walk; and the means of the times, with the longest walk.
+# row for each family: its sizes; the means of the losses in the same columns, with the least and
+# the greatest after the moves and after the walk; and the means of the times, with the longest
+# walk.
 #
 # Last what the product takes for 1024 orders of the generator with no node, reading and printing
 # included: the seed, the loss, and seconds.

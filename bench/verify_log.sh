@@ -4,8 +4,8 @@
 # Each row: the size, the number of records, the kilobytes of the log, the milliseconds of `verify`
 # on the instance and the answer, those of a program that reads the log and parses it, their ratio,
 # and the nanoseconds of `verify` for a byte of the log. Each time is the least of five runs. There
-# are always eleven orders, of one colour and of weights 21 to 31, so that the logs grow with the one
-# size: the more orders a slab holds, the more paths there are. The last row is a log of 250 MB
+# are always eleven orders, of one colour and of weights 21 to 31, so that the logs grow with the
+# one size: the more orders a slab holds, the more paths there are. The last row is a log of 250 MB
 # whose lines are right and whose records are not all that is wanted; it ends with what `verify`
 # says.
 #

@@ -28,7 +28,8 @@ product
 
 # The seconds that a call of `solve` with these words takes on the instance.
 seconds() {
-    { TIMEFORMAT=%R; time "$product" solve "$@" <"$scratch/instance" >"$scratch/answer" || true; } 2>&1
+    local TIMEFORMAT=%R
+    { time "$product" solve "$@" <"$scratch/instance" >"$scratch/answer" || true; } 2>&1
 }
 
 # One call with this budget and so many workers: the workers, the seconds, and the loss or - where

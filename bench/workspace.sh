@@ -9,7 +9,8 @@
 set -euo pipefail
 
 root=$(cd "$(dirname "${BASH_SOURCE[0]}")/.." && pwd -P)
-workspace=${MILL_SLAB_BENCH:-${TMPDIR:-/tmp}/mill_slab-bench-$(id -u)-$(cksum <<<"$root" | cut -d' ' -f1)}
+checksum=$(cksum <<<"$root" | cut -d' ' -f1)
+workspace=${MILL_SLAB_BENCH:-${TMPDIR:-/tmp}/mill_slab-bench-$(id -u)-$checksum}
 scratch=$(mktemp -d)
 trap 'rm -rf "$scratch"' EXIT
 

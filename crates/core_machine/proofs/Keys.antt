@@ -1,21 +1,19 @@
 -- The computed live key of a path is its live key, and there is no other.
 use Rattle.std.proofs.Common.{ℕ, zero, suc, ◌+◌, ◌<◌, ◌≤◌, ◌≡◌, ◌≢◌, Bool, true, false, cond, ◌||◌}
-use Rattle.std.proofs.Common.{List, [], ◌∷◌, length, map, eqb, ltb, get_or, refl, sym, ap, ap₂}
+use Rattle.std.proofs.Common.{List, [], ◌∷◌, length, map, eqb, ltb, get_or, refl, sym, ap}
 use Rattle.std.proofs.Common.{◌∙◌, arith, inl, inr, ltb-true, ltb-false, eqb-true, eq-eqb}
 use Rattle.std.proofs.Common.{false-eqb, Ordering, Less, Equal, Greater}
 use Rattle.std.specs.Prelude.{Contains}
-use Rattle.std.specs.Cmp.Lexicographic.{slice_cmp}
-use Rattle.std.specs.Ordering.{nat_cmp, ordering_then, ordering_reverse, is_lt, is_eq}
+use Rattle.std.specs.Ordering.{ordering_reverse, is_lt}
 use Rattle.std.specs.List.Sorted.{IsPermutation, IsSortedByKey, IsStrictlyIncreasing}
 use Rattle.std.proofs.lemmas.List.Sorted.{IsPermutation-refl, IsPermutation-cons}
 use Rattle.std.proofs.lemmas.List.Sorted.{IsPermutation-middle, IsPermutation-trans}
-use Rattle.std.proofs.lemmas.Map.Lookups.{exact_unsigned, exact_bytes}
 use Rattle.list_laws.specs.Sets.{holds}
 use Rattle.list_laws.proofs.Tests.{either, clash, or-left, or-right, or-swap}
 use Rattle.order_symmetry.specs.Ranked.{RankedOrders, IsRanked}
 use Rattle.split_tree.specs.Node.{Node}
-use Rattle.split_tree.specs.Keys.{Key, IsLiveKey, IsRisingListOf, group_order, rest_of, same_key}
-use Rattle.split_tree.specs.KeyLaws.{group_total, key_equal}
+use Rattle.split_tree.specs.Keys.{Key, IsLiveKey, IsRisingListOf, group_order, rest_of}
+use Rattle.split_tree.specs.KeyLaws.{group_total, key_equal, same-key-is-equal}
 use Rattle.split_tree.specs.declared.live_key.KeyGroup.{KeyGroup}
 use Rattle.split_tree.proofs.SameKeys.{equal-keys-are-same-live-keys}
 use Rattle.core_machine.specs.Places.{put_rising, in_rise, put_group, sorted_groups, coming_at}
@@ -198,48 +196,11 @@ live-key-is ranked path =
       sorted = sorts-each (sorted_groups (groups_at node)) (sorted-sorts (groups_at node));
     }
 
--- Keys that are the same are equal.
-
-then-equal : (a b : Ordering) → is_eq (ordering_then a b) ≡ true → (a ≡ Equal) × (is_eq b ≡ true)
-then-equal Less b e = absurd (clash false e refl)
-then-equal Equal b e = (refl, e)
-then-equal Greater b e = absurd (clash false e refl)
-
-is-equal : (o : Ordering) → is_eq o ≡ true → o ≡ Equal
-is-equal Less e = absurd (clash false e refl)
-is-equal Equal e = refl
-is-equal Greater e = absurd (clash false e refl)
-
-group-exact : (a b : KeyGroup) → is_eq (group_order a b) ≡ true → a ≡ b
-group-exact a b e =
-    let loads = then-equal (nat_cmp a.load b.load) _ e in
-    let others = then-equal (nat_cmp a.colours b.colours) _ loads.1 in
-    let l : a.load ≡ b.load = exact_unsigned a.load b.load loads.0 in
-    let c : a.colours ≡ b.colours = exact_unsigned a.colours b.colours others.0 in
-    let m : a.coming ≡ b.coming =
-    exact_bytes a.coming b.coming (is-equal (slice_cmp nat_cmp a.coming b.coming) others.1) in
-    λ i. record { load = l i; colours = c i; coming = m i }
-
-groups-exact : (xs ys : List KeyGroup) → is_eq (slice_cmp group_order xs ys) ≡ true → xs ≡ ys
-groups-exact [] [] e = refl
-groups-exact [] (y ∷ ys) e = absurd (clash false e refl)
-groups-exact (x ∷ xs) [] e = absurd (clash false e refl)
-groups-exact (x ∷ xs) (y ∷ ys) e =
-    let both = then-equal (group_order x y) (slice_cmp group_order xs ys) e in
-    ap₂ (λ a b. a ∷ b) (group-exact x y (ap is_eq both.0)) (groups-exact xs ys both.1)
-
-same-exact : (a b : Key) → same_key a b ≡ true → a ≡ b
-same-exact a b e =
-    let both = then-equal (nat_cmp a.depth b.depth) (slice_cmp group_order a.groups b.groups) e in
-    let d : a.depth ≡ b.depth = exact_unsigned a.depth b.depth both.0 in
-    let g : a.groups ≡ b.groups = groups-exact a.groups b.groups both.1 in
-    λ i. record { depth = d i; groups = g i }
-
 -- and there is no other: both are the same as each live key of the path is as itself
 pub live-key-one : (ranked : RankedOrders) (path : List ℕ) (key : Key) → IsRanked ranked →
     IsLiveKey (record { ranked = ranked; path = path }) key → key ≡ live_key_at ranked path
 live-key-one ranked path key known is =
-    same-exact key (live_key_at ranked path)
+    same-key-is-equal key (live_key_at ranked path)
     (equal-keys-are-same-live-keys ranked path path key (live_key_at ranked path) known is
     (live-key-is ranked path)
     ∙ sym (equal-keys-are-same-live-keys ranked path path key key known is is)

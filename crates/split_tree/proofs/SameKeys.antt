@@ -10,13 +10,13 @@ use Rattle.std.proofs.Common.{inr}
 use Rattle.std.proofs.Common.{Ordering, Less, Equal, Greater}
 use Rattle.std.specs.Prelude.{Contains}
 use Rattle.std.specs.Cmp.Lexicographic.{slice_cmp}
-use Rattle.std.specs.Ordering.{nat_cmp, ordering_then, ordering_reverse, is_lt, is_eq}
+use Rattle.std.specs.Ordering.{nat_cmp, ordering_reverse, is_lt, is_eq}
 use Rattle.std.specs.List.{list_all, AllByRecursion}
 use Rattle.std.specs.List.Sorted.{IsPermutation, IsSortedByKey}
 use Rattle.std.proofs.lemmas.Cmp.{nat_cmp_total}
 use Rattle.std.proofs.lemmas.List.Folds.{list_all-append}
 use Rattle.std.proofs.lemmas.List.MinMax.{ranks_by}
-use Rattle.std.proofs.lemmas.Map.Lookups.{exact_unsigned, exact_bytes}
+use Rattle.std.proofs.lemmas.Map.Views.{tells_apart}
 use Rattle.list_laws.specs.Sets.{holds, times, same_times, below}
 use Rattle.list_laws.proofs.Tests.{either, and-left, and-right, or-left, or-right, equal-tests}
 use Rattle.list_laws.proofs.Tests.{clash}
@@ -37,44 +37,17 @@ use Rattle.order_symmetry.specs.Ranked.{RankedOrders, IsRanked, orders_of}
 use Rattle.order_symmetry.proofs.Limits.{each-order}
 use Rattle.split_tree.specs.Keys.{Key, IsLiveKey, IsRisingListOf, group_order, same_key}
 use Rattle.split_tree.specs.Keys.{key_group, padded, EqualKeysAreSameLiveKeys}
-use Rattle.split_tree.specs.KeyLaws.{group_total}
+use Rattle.split_tree.specs.KeyLaws.{group_total, group-exact, groups-exact, same-key-is-equal}
 use Rattle.split_tree.specs.declared.live_key.KeyGroup.{KeyGroup}
 use Rattle.split_tree.specs.declared.live_key.TheConstants.{NO_COLOUR}
 
 -- Comparisons that tie only what is equal.
-
-then-equal : (a b : Ordering) → ordering_then a b ≡ Equal → (a ≡ Equal) × (b ≡ Equal)
-then-equal Less b e = absurd (cc)
-then-equal Equal b e = (refl, e)
-then-equal Greater b e = absurd (cc)
-
-is-equal : (o : Ordering) → is_eq o ≡ true → o ≡ Equal
-is-equal Less e = absurd (clash false e refl)
-is-equal Equal e = refl
-is-equal Greater e = absurd (clash false e refl)
 
 -- an order that gives the same both ways ties
 self-tied : (o : Ordering) → o ≡ ordering_reverse o → o ≡ Equal
 self-tied Less e = absurd (cc)
 self-tied Equal e = refl
 self-tied Greater e = absurd (cc)
-
-group-exact : (a b : KeyGroup) → group_order a b ≡ Equal → a ≡ b
-group-exact a b e =
-    let loads = then-equal (nat_cmp a.load b.load) _ e in
-    let others = then-equal (nat_cmp a.colours b.colours) _ loads.1 in
-    let l : a.load ≡ b.load = exact_unsigned a.load b.load loads.0 in
-    let c : a.colours ≡ b.colours = exact_unsigned a.colours b.colours others.0 in
-    let m : a.coming ≡ b.coming = exact_bytes a.coming b.coming others.1 in
-    λ i. record { load = l i; colours = c i; coming = m i }
-
-groups-exact : (xs ys : List KeyGroup) → slice_cmp group_order xs ys ≡ Equal → xs ≡ ys
-groups-exact [] [] e = refl
-groups-exact [] (y ∷ ys) e = absurd (cc)
-groups-exact (x ∷ xs) [] e = absurd (cc)
-groups-exact (x ∷ xs) (y ∷ ys) e =
-    let both = then-equal (group_order x y) _ e in
-    ap₂ (λ a b. a ∷ b) (group-exact x y both.0) (groups-exact xs ys both.1)
 
 group-self : (a : KeyGroup) → group_order a a ≡ Equal
 group-self a = self-tied (group_order a a) (group_total.antisymm a a)
@@ -95,7 +68,7 @@ abbrev less : KeyGroup → KeyGroup → Bool
 less a b = is_lt (group_order a b)
 
 alike-eq : (a b : KeyGroup) → alike a b ≡ true → a ≡ b
-alike-eq a b e = group-exact a b (is-equal (group_order a b) e)
+alike-eq = tells_apart group-exact
 
 alike-self : (a : KeyGroup) → alike a a ≡ true
 alike-self a = rw (group-self a) refl
@@ -317,7 +290,7 @@ sorted-tell xs ys a b moved moved' rise rise' = equal-tests _ _ there back
   where
     there : is_eq (slice_cmp group_order a b) ≡ true → same_times alike xs ys ≡ true
     there e =
-        let same = groups-exact a b (is-equal _ e) in
+        let same = tells_apart groups-exact a b e in
         all-from (λ k. eqb (times alike k xs) (times alike k ys)) (xs ++ ys)
         (λ k m. eq-eqb _ _ (sym (times-moved alike k xs a moved) ∙ ap (times alike k) same
         ∙ times-moved alike k ys b moved'))
@@ -416,8 +389,7 @@ module _ (ranked : RankedOrders) (known : IsRanked ranked) (q r : List ℕ) (a b
       uneven : eqb (length q) (length r) ≡ false → same_key a b ≡ false
       uneven e = elim (either (same_key a b)) [
         | inl t ↦ absurd (clash (eqb (length q) (length r)) (eq-eqb _ _ (sym first.depth
-            ∙ exact_unsigned a.depth b.depth
-            (then-equal (nat_cmp a.depth b.depth) _ (is-equal _ t)).0 ∙ second.depth)) e)
+            ∙ ap (λ k. k.depth) (same-key-is-equal a b t) ∙ second.depth)) e)
         | inr f ↦ f
       ]
 

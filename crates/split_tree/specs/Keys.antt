@@ -4,6 +4,8 @@ use Rattle.std.specs.Prelude.{ℕ, ◌-◌, ◌≡◌, Bool, List, ◌++◌, map
 use Rattle.std.specs.Prelude.{Contains}
 use Rattle.std.specs.List.Sorted.{IsPermutation, IsSortedByKey, IsStrictlyIncreasing}
 use Rattle.std.specs.Cmp.Lexicographic.{slice_cmp}
+use Rattle.std.specs.Hash as fed
+use Rattle.std.specs.Hash.{HashWrites}
 use Rattle.std.specs.Ordering.{nat_cmp, ordering_then, is_eq}
 use Rattle.std.specs.declared.cmp.Ordering.{Ordering}
 use Rattle.list_laws.specs.Sets.{below}
@@ -35,6 +37,14 @@ key_order a b =
 -- whether two keys are the same
 abbrev pub same_key : Key → Key → Bool
 same_key a b = is_eq (key_order a b)
+
+-- what a hasher is fed of a group, and of a key: its depth, how many groups it has, and each group
+abbrev pub fed_of_group : KeyGroup → HashWrites
+fed_of_group group =
+    fed.u32 group.load ++ fed.u16 group.colours ++ fed.slice fed.u16 group.coming
+
+abbrev pub fed_of_key : Key → HashWrites
+fed_of_key key = fed.u16 key.depth ++ fed.slice fed_of_group key.groups
 
 -- the given numbers, rising and each once
 pub record IsRisingListOf (given list : List ℕ) : Type 0 where

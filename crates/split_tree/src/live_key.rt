@@ -9,8 +9,8 @@ ghost use Rattle.mill_model.specs.declared.order.Order.{Order};
 ghost use Rattle.order_symmetry.specs.Ranked.{orders_of};
 ghost use Rattle.slab_rules.specs.OpenSlab.{Carries};
 ghost use Rattle.split_tree.specs.Keys.{IsLiveKey, IsRisingListOf, key_group, key_order, padded};
-ghost use Rattle.split_tree.specs.Keys.{EqualKeysAreSameLiveKeys, rest_of, same_key};
-ghost use Rattle.split_tree.specs.KeyLaws.{key_equal, key_total};
+ghost use Rattle.split_tree.specs.Keys.{EqualKeysAreSameLiveKeys, fed_of_key, rest_of, same_key};
+ghost use Rattle.split_tree.specs.KeyLaws.{key_equal, key_total, same-keys-give-same};
 ghost use Rattle.std.specs.Cmp.{partial_equiv_from_equiv, partial_order_from_agreeing_total};
 ghost use Rattle.std.specs.Ordering.{as_partial_cmp};
 
@@ -19,13 +19,14 @@ use mill_model::{Charges, OutOfMemory};
 use slab_rules::OpenSlab;
 use std::alloc::Global;
 use std::cmp::Ordering;
+use std::hash::{Hash, Hasher};
 use std::marker::Model;
 
 /// Stands in the places of a key's group behind its last colour. No order has it.
 pub const NO_COLOUR: u16 = 65535;
 
 /// A live group as the later orders see it.
-#[derive(Clone, Copy, Debug, Drop, PartialEq, Eq, PartialOrd, Ord)]
+#[derive(Clone, Copy, Debug, Drop, PartialEq, Eq, PartialOrd, Ord, Hash)]
 pub struct KeyGroup {
     pub load: u32,
     /// How many colours it has.
@@ -93,6 +94,17 @@ impl PartialEq for LiveKey {
 
 impl Eq for LiveKey {
     ghost laws = { key_equal };
+}
+
+impl Hash for LiveKey {
+    ghost hash_input = { fed_of_key };
+
+    ghost respects_eq = { same-keys-give-same fed_of_key };
+
+    fn hash<H: Hasher>(&self, state: &mut H) {
+        self.depth.hash(state);
+        self.groups.hash(state);
+    }
 }
 
 impl PartialOrd for LiveKey {

@@ -1,18 +1,17 @@
 -- The best entry of a key is found where its dead loss is low enough, and stays the best until a
 -- lesser one is noted.
-use Rattle.std.proofs.Common.{ℕ, zero, suc, ◌+◌, ◌<◌, ◌≤◌, ◌≡◌, ◌≢◌, Bool, true, false, cond, ◌&&◌}
+use Rattle.std.proofs.Common.{ℕ, zero, suc, ◌+◌, ◌<◌, ◌≤◌, ◌≡◌, Bool, true, false, cond, ◌&&◌}
 use Rattle.std.proofs.Common.{leb}
 use Rattle.std.proofs.Common.{List, [], ◌∷◌, ◌++◌, length, Option, Some, None, refl, sym, ap, ap₂}
-use Rattle.std.proofs.Common.{◌∙◌}
+use Rattle.std.proofs.Common.{◌∙◌, get_or}
 use Rattle.std.proofs.Common.{arith, inl, inr, le-leb, leb-true, length-append, subst}
-use Rattle.std.specs.Prelude.{slice_get, option_copied}
-use Rattle.std.specs.Ordering.{is_eq}
-use Rattle.std.specs.BTreeMap.{BTreeMap, get, is_at}
+use Rattle.std.specs.Prelude.{slice_get, unwrap_or, IfSome}
 use Rattle.std.proofs.lemmas.Bool.{cases_lt}
+use Rattle.std.proofs.lemmas.Option.{slice_get-get_or}
 use Rattle.list_laws.proofs.Tests.{either, clash}
-use Rattle.split_tree.specs.Keys.{Key, key_order, same_key}
+use Rattle.split_tree.specs.Keys.{Key, same_key}
 use Rattle.split_tree.specs.KeyLaws.{key_equal}
-use Rattle.nogood_store.specs.Entries.{best, found, is_none, lesser, path_of}
+use Rattle.nogood_store.specs.Entries.{best, found, lesser}
 use Rattle.nogood_store.specs.Places.{HasBest, entry_at}
 use Rattle.nogood_store.specs.declared.store.Entry.{Entry}
 
@@ -118,150 +117,119 @@ got-last : (entries : List Entry) (e : Entry) →
 got-last [] e = refl
 got-last (x ∷ entries) e = got-last entries e
 
-module _ (places : BTreeMap Key ℕ) (entries : List Entry) (is : HasBest places entries)
-    (e : Entry) where
-  stays : (key : Key) → entry_at (entries ++ e ∷ []) (get key_order places key) ≡ best entries key
-  stays key = go (get key_order places key) refl ∙ is.best key
+-- An entry is noted. Where one is found for its key and its dead loss, the key keeps the place of
+-- that one; else it has the place behind the last entry.
+module _ (place_of : Key → Option ℕ) (entries : List Entry) (is : HasBest place_of entries)
+    (e : Entry) (there : Option ℕ) (at : entry_at entries there ≡ found entries e.key e.dead)
+    (low : IfSome there (λ place. place < length entries)) where
+  abbrev place : ℕ
+  place = unwrap_or there (length entries)
+
+  stays : (key : Key) → entry_at (entries ++ e ∷ []) (place_of key) ≡ best entries key
+  stays key = go (place_of key) refl ∙ is.best key
     where
-      go : (r : Option ℕ) → get key_order places key ≡ r →
-          entry_at (entries ++ e ∷ []) r ≡ entry_at entries r
+      go : (r : Option ℕ) → place_of key ≡ r → entry_at (entries ++ e ∷ []) r ≡ entry_at entries r
       go None q = refl
-      go (Some place) q = got-front entries e place (is.within key place q)
+      go (Some at) q = got-front entries e at (is.within key at q)
 
-  longer : (key : Key) (place : ℕ) → get key_order places key ≡ Some place →
-      place < length (entries ++ e ∷ [])
-  longer key place q =
-      let low : place < length entries = is.within key place q in
-      let long : length (entries ++ e ∷ []) ≡ length entries + 1 = length-append entries (e ∷ []) in
-      omega arith
-
-  -- where the key has a best one with at most the dead loss
-  noted-behind-one : (f : Entry) → bounded (best entries e.key) e.dead ≡ Some f →
-      HasBest places (entries ++ e ∷ [])
-  noted-behind-one f h = record { best = all; within = longer }
+  is-best : slice_get (entries ++ e ∷ []) place ≡ better (best entries e.key) e
+  is-best = go there (at ∙ found-bounded entries e.key e.dead) low
     where
-      kept : (r : Option Entry) → bounded r e.dead ≡ Some f → better r e ≡ r
-      kept None q = absurd (none-some q)
-        where
-          none-some : None ≡ Some f → ⊥
-          none-some q = cc
-      kept (Some g) q = elim (either (leb g.dead e.dead)) [
-        | inl l ↦ rw l refl
-        | inr l ↦ absurd (none-some (rw l at q))
-      ]
-        where
-          none-some : None ≡ Some f → ⊥
-          none-some q = cc
-
-      all : (key : Key) →
-          entry_at (entries ++ e ∷ []) (get key_order places key) ≡ best (entries ++ e ∷ []) key
-      all key =
-          stays key ∙ sym (best-more entries e key ∙ elim (either (same_key key e.key)) [
-            | inl s ↦ rw s (ap (λ r. better r e) (best-same entries key e.key s)
-                ∙ kept (best entries e.key) h ∙ sym (best-same entries key e.key s))
-            | inr s ↦ rw s refl
-          ])
-
-  pub noted-behind : is_none (found entries e.key e.dead) ≡ false →
-      HasBest places (entries ++ e ∷ [])
-  noted-behind there = some (found entries e.key e.dead) (found-bounded entries e.key e.dead) there
-    where
-      some : (r : Option Entry) → r ≡ bounded (best entries e.key) e.dead → is_none r ≡ false →
-          HasBest places (entries ++ e ∷ [])
-      some None q n = absurd (clash true refl n)
-      some (Some f) q n = noted-behind-one f (sym q)
-
-  -- where it has none, and the new place is put into the map
-  pub noted-before : (more : BTreeMap Key ℕ) →
-      is_none (found entries e.key e.dead) ≡ true → ((key : Key) → get key_order more key
-      ≡ cond (is_at (key_order e.key) key) (Some (length entries)) (get key_order places key)) →
-      HasBest more (entries ++ e ∷ [])
-  noted-before more absent updates = record { best = all; within = below }
-    where
-      h : bounded (best entries e.key) e.dead ≡ None
-      h = sym (found-bounded entries e.key e.dead) ∙ none (found entries e.key e.dead) absent
-        where
-          none : (r : Option Entry) → is_none r ≡ true → r ≡ None
-          none None q = refl
-          none (Some f) q = absurd (clash false q refl)
-
-      new : (r : Option Entry) → bounded r e.dead ≡ None → better r e ≡ Some e
-      new None q = refl
-      new (Some g) q = elim (either (leb g.dead e.dead)) [
-        | inl l ↦ absurd (some-none (rw l at q))
+      behind : (r : Option Entry) → None ≡ bounded r e.dead → better r e ≡ Some e
+      behind None q = refl
+      behind (Some g) q = elim (either (leb g.dead e.dead)) [
+        | inl l ↦ absurd (none-some (q ∙ rw l refl))
         | inr l ↦ rw l refl
       ]
         where
-          some-none : Some g ≡ None → ⊥
+          none-some : None ≡ Some g → ⊥
+          none-some q = cc
+
+      before : (r : Option Entry) (f : Entry) → Some f ≡ bounded r e.dead → better r e ≡ Some f
+      before None f q = absurd (some-none q)
+        where
+          some-none : Some f ≡ None → ⊥
+          some-none q = cc
+      before (Some g) f q = elim (either (leb g.dead e.dead)) [
+        | inl l ↦ rw l (sym (q ∙ rw l refl))
+        | inr l ↦ absurd (some-none (q ∙ rw l refl))
+      ]
+        where
+          some-none : Some f ≡ None → ⊥
           some-none q = cc
 
-      turned : (key : Key) → is_at (key_order e.key) key ≡ same_key key e.key
-      turned key = key_equal.symm e.key key
+      go : (r : Option ℕ) → entry_at entries r ≡ bounded (best entries e.key) e.dead →
+          IfSome r (λ place. place < length entries) →
+          slice_get (entries ++ e ∷ []) (unwrap_or r (length entries))
+          ≡ better (best entries e.key) e
+      go None q l = got-last entries e ∙ sym (behind (best entries e.key) q)
+      go (Some old) q l =
+          let is : slice_get entries old ≡ Some (get_or entries old e) =
+          slice_get-get_or entries old e l in
+          got-front entries e old l ∙ is
+          ∙ sym (before (best entries e.key) (get_or entries old e) (sym is ∙ q))
 
-      all : (key : Key) →
-          entry_at (entries ++ e ∷ []) (get key_order more key) ≡ best (entries ++ e ∷ []) key
-      all key =
-          ap (entry_at (entries ++ e ∷ [])) (updates key ∙ ap (λ b. cond b (Some (length entries))
-          (get key_order places key)) (turned key))
-          ∙ elim (either (same_key key e.key)) [
-            | inl s ↦ rw s (got-last entries e ∙ sym (best-more entries e key ∙ rw s (
-                ap (λ r. better r e) (best-same entries key e.key s)
-                ∙ new (best entries e.key) h)))
-            | inr s ↦ rw s (stays key ∙ sym (best-more entries e key ∙ rw s refl))
-          ]
-
-      below : (key : Key) (place : ℕ) → get key_order more key ≡ Some place →
-          place < length (entries ++ e ∷ [])
-      below key place q = go (is_at (key_order e.key) key) (sym (updates key) ∙ q)
-        where
-          go : (b : Bool) → cond b (Some (length entries)) (get key_order places key) ≡ Some place →
-              place < length (entries ++ e ∷ [])
-          go true k =
-              let same : length entries ≡ place = some-same k in
-              let long : length (entries ++ e ∷ []) ≡ length entries + 1 =
-              length-append entries (e ∷ []) in
-              omega arith
-            where
-              some-same : Some (length entries) ≡ Some place → length entries ≡ place
-              some-same k = cc
-          go false k = longer key place k
-
--- what is found by the place of the best one
-module _ (places : BTreeMap Key ℕ) (entries : List Entry) (is : HasBest places entries) (key : Key)
-    (dead : ℕ) where
-  pub path-none : entry_at entries (get key_order places key) ≡ None →
-      None ≡ path_of (found entries key dead)
-  path-none e =
-      sym (ap path_of (found-bounded entries key dead
-      ∙ ap (λ r. bounded r dead) (sym (is.best key) ∙ e)))
-
-  pub path-here : (f : Entry) → entry_at entries (get key_order places key) ≡ Some f →
-      f.dead ≤ dead → Some f.path ≡ path_of (found entries key dead)
-  path-here f e l =
-      sym (ap path_of (found-bounded entries key dead
-      ∙ ap (λ r. bounded r dead) (sym (is.best key) ∙ e)
-      ∙ ap (λ b. cond b (Some f) None) (le-leb f.dead dead l)))
-
-  pub path-above : (f : Entry) → entry_at entries (get key_order places key) ≡ Some f →
-      dead < f.dead → None ≡ path_of (found entries key dead)
-  path-above f e l =
-      sym (ap path_of (found-bounded entries key dead
-      ∙ ap (λ r. bounded r dead) (sym (is.best key) ∙ e) ∙ above (leb f.dead dead) refl))
+  pub noted : (more : Key → Option ℕ) →
+      ((key : Key) → more key ≡ cond (same_key e.key key) (Some place) (place_of key)) →
+      HasBest more (entries ++ e ∷ [])
+  noted more updates = record { best = all; within = below }
     where
-      above : (b : Bool) → leb f.dead dead ≡ b → cond b (Some f) None ≡ None
+      turned : (key : Key) → more key ≡ cond (same_key key e.key) (Some place) (place_of key)
+      turned key =
+          updates key ∙ ap (λ b. cond b (Some place) (place_of key)) (key_equal.symm e.key key)
+
+      all : (key : Key) → entry_at (entries ++ e ∷ []) (more key) ≡ best (entries ++ e ∷ []) key
+      all key = ap (entry_at (entries ++ e ∷ [])) (turned key) ∙ elim (either (same_key key e.key)) [
+        | inl s ↦ rw s (is-best ∙ sym (best-more entries e key
+            ∙ rw s (ap (λ r. better r e) (best-same entries key e.key s))))
+        | inr s ↦ rw s (stays key ∙ sym (best-more entries e key ∙ rw s refl))
+      ]
+
+      longer : length (entries ++ e ∷ []) ≡ length entries + 1
+      longer = length-append entries (e ∷ [])
+
+      placed : place < length (entries ++ e ∷ [])
+      placed = go there low
+        where
+          go : (r : Option ℕ) → IfSome r (λ place. place < length entries) →
+              unwrap_or r (length entries) < length (entries ++ e ∷ [])
+          go None l = let n = longer in omega arith
+          go (Some old) l = let n = longer in omega arith
+
+      below : (key : Key) (at : ℕ) → more key ≡ Some at → at < length (entries ++ e ∷ [])
+      below key at q = go (same_key key e.key) (sym (turned key) ∙ q)
+        where
+          go : (b : Bool) → cond b (Some place) (place_of key) ≡ Some at →
+              at < length (entries ++ e ∷ [])
+          go true k = subst (λ n. n < length (entries ++ e ∷ [])) (some-same k) placed
+            where
+              some-same : Some place ≡ Some at → place ≡ at
+              some-same k = cc
+          go false k =
+              let l : at < length entries = is.within key at k in
+              let n = longer in
+              omega arith
+
+-- The place of the best entry is that of the one that is found, or its dead loss is too high.
+module _ (place_of : Key → Option ℕ) (entries : List Entry) (is : HasBest place_of entries)
+    (key : Key) (dead : ℕ) where
+  best-bounded : bounded (entry_at entries (place_of key)) dead ≡ found entries key dead
+  best-bounded =
+      ap (λ r. bounded r dead) (is.best key) ∙ sym (found-bounded entries key dead)
+
+  pub none-there : None ≡ place_of key → None ≡ found entries key dead
+  none-there q = ap (λ r. bounded (entry_at entries r) dead) q ∙ best-bounded
+
+  pub one-there : (f : Entry) → entry_at entries (place_of key) ≡ Some f → f.dead ≤ dead →
+      Some f ≡ found entries key dead
+  one-there f q l =
+      sym (ap (λ b. cond b (Some f) None) (le-leb f.dead dead l))
+      ∙ ap (λ r. bounded r dead) (sym q) ∙ best-bounded
+
+  pub one-above : (f : Entry) → entry_at entries (place_of key) ≡ Some f → dead < f.dead →
+      None ≡ found entries key dead
+  one-above f q l = above (leb f.dead dead) refl ∙ ap (λ r. bounded r dead) (sym q) ∙ best-bounded
+    where
+      above : (b : Bool) → leb f.dead dead ≡ b → None ≡ cond b (Some f) None
       above true t = absurd (let low : f.dead ≤ dead = leb-true f.dead dead t in omega arith)
       above false t = refl
-
-pub none-found : (r : Option Entry) → None ≡ path_of r → true ≡ is_none r
-none-found None e = refl
-none-found (Some f) e = absurd (none-some e)
-  where
-    none-some : None ≡ Some f.path → ⊥
-    none-some e = cc
-
-pub one-found : (r : Option Entry) (path : List ℕ) → Some path ≡ path_of r → false ≡ is_none r
-one-found (Some f) path e = refl
-one-found None path e = absurd (some-none e)
-  where
-    some-none : Some path ≡ None → ⊥
-    some-none e = cc

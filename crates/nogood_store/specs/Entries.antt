@@ -1,7 +1,7 @@
 -- Noted paths, and which of them is found for a key.
-use Rattle.std.specs.Prelude.{ℕ, suc, ◌+◌, ◌<◌, ◌≤◌, ◌≡◌, Bool, true, false, cond, ◌&&◌, leb, List}
-use Rattle.std.specs.Prelude.{[], ◌∷◌, ◌++◌}
-use Rattle.std.specs.Prelude.{length, Option, Some, None, All}
+use Rattle.std.specs.Prelude.{ℕ, Bool, true, false, cond, ◌&&◌, leb, List}
+use Rattle.std.specs.Prelude.{[], ◌∷◌}
+use Rattle.std.specs.Prelude.{Option, Some, None}
 use Rattle.split_tree.specs.Keys.{Key, same_key}
 use Rattle.nogood_store.specs.declared.store.Entry.{Entry}
 

@@ -1,14 +1,17 @@
-// The store: entries in the order of noting, and of each key the place of its best entry.
+// The store: each live key once, with the place of its best entry, and the entries in the order of
+// noting, each with the number of its key.
 
 ghost use Rattle.std.specs.Prelude.{◌≡◌, ◌≢◌, ◌<◌, ◌≤◌, ◌++◌, ◌∷◌, [], length, option_copied};
-ghost use Rattle.nogood_store.specs.Entries.{Stored, found, is_none, path_of};
+ghost use Rattle.std.specs.Prelude.{IfSome};
+ghost use Rattle.nogood_store.specs.Entries.{Stored, found, path_of};
+ghost use Rattle.nogood_store.specs.Places.{entry_at};
 ghost use Rattle.nogood_store.specs.declared.store.Entry.{Entry};
 ghost use Rattle.nogood_store.specs.declared.store.Noted.TheVariants.{Full, Kept, OutOfMemory};
 
+use indexmap::IndexMap;
 use mill_model::Path;
 use split_tree::LiveKey;
 use std::alloc::Global;
-use std::collections::BTreeMap;
 use std::marker::Model;
 
 /// A path that was split, with its live key and its dead loss.
@@ -28,24 +31,38 @@ pub enum Noted {
     OutOfMemory,
 }
 
+// An entry whose live key stands among the store's.
+#[derive(Debug, Drop)]
+struct Numbered {
+    key: usize,
+    dead: u64,
+    path: Path,
+}
+
 /// Noted paths in the order of noting, as many as there is room for.
 #[derive(Debug, Drop)]
 pub struct Store {
-    entries: Vec<Entry>,
+    entries: Vec<Numbered>,
     // Of each key the place of the entry with the least dead loss.
-    places: BTreeMap<LiveKey, usize>,
+    places: IndexMap<LiveKey, usize>,
     room: u32,
 }
 
 impl Model for Store {
+    ghost use Rattle.indexmap.specs.IndexMap.{get, keys};
     ghost use Rattle.nogood_store.specs.Entries.{Stored};
-    ghost use Rattle.nogood_store.specs.Places.{HasBest};
+    ghost use Rattle.nogood_store.specs.Places.{AreNumbered, HasBest, entries_of};
+    ghost use Rattle.split_tree.specs.Keys.{same_key};
 
     ghost Value = { Stored };
 
-    ghost view = { λ s. record { entries = s.entries.items; room = s.room } };
+    ghost view = { λ s. record {
+      entries = entries_of (keys s.places) s.entries.items;
+      room = s.room;
+    } };
 
-    ghost invariant = { λ s. HasBest s.places s.entries.items };
+    ghost invariant = { λ s. AreNumbered (keys s.places) s.entries.items ×
+        HasBest (get same_key s.places) (entries_of (keys s.places) s.entries.items) };
 }
 
 impl Store {
@@ -55,7 +72,7 @@ impl Store {
     {
         Store {
             entries: Vec::new(alloc),
-            places: BTreeMap::new(alloc),
+            places: IndexMap::new(alloc),
             room,
         }
     }
@@ -65,15 +82,8 @@ impl Store {
     pub fn find(&self, key: &LiveKey, dead: u64) -> Option<&Path>
         ensures { option_copied result ≡ path_of (found self.now.entries key.now dead) }
     {
-        let Some(place) = self.places.get(key) else {
-            return None;
-        };
-        let entry = &self.entries[*place];
-        if entry.dead <= dead {
-            Some(&entry.path)
-        } else {
-            None
-        }
+        let place = self.place(key, dead)?;
+        Some(&self.entries[place].path)
     }
 
     /// Notes a path with its live key and its dead loss. Where it isn't kept, nothing changes.
@@ -87,32 +97,31 @@ impl Store {
         ensures room { result ≢ Full → length self.old.entries < self.old.room }
         ensures unchanged { result ≢ Kept → self.new ≡ self.old }
     {
-        let place = self.entries.len();
-        if place >= self.room as usize {
+        let last = self.entries.len();
+        if last >= self.room as usize {
             return Noted::Full;
         }
         if self.entries.reserve(1).is_err() {
             return Noted::OutOfMemory;
         }
-        if self.is_better(&key, dead) {
-            let Ok(copy) = key.copy() else {
-                return Noted::OutOfMemory;
-            };
-            if self.places.insert(copy, place).is_err() {
-                return Noted::OutOfMemory;
-            }
-        }
-        self.entries.push_reserved(Entry { key, dead, path });
+        let best = self.place(&key, dead).unwrap_or(last);
+        let Ok((key, _)) = self.places.insert_full(key, best) else {
+            return Noted::OutOfMemory;
+        };
+        self.entries.push_reserved(Numbered { key, dead, path });
         Noted::Kept
     }
 
-    // Whether no entry is found for this key and this dead loss, so that a new one is the best.
-    fn is_better(&self, key: &LiveKey, dead: u64) -> bool
-        ensures { result ≡ is_none (found self.now.entries key.now dead) }
+    // The place of the entry that is found for this key and this dead loss.
+    fn place(&self, key: &LiveKey, dead: u64) -> Option<usize>
+        ensures found { entry_at self.now.entries result ≡ found self.now.entries key.now dead }
+        ensures within { IfSome result (λ place. place < length self.now.entries) }
     {
-        match self.find(key, dead) {
-            Some(_) => false,
-            None => true,
+        let place = *self.places.get(key)?;
+        if self.entries[place].dead <= dead {
+            Some(place)
+        } else {
+            None
         }
     }
 }

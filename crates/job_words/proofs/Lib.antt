@@ -2,4 +2,3 @@ pub mod Names
 pub mod Rules
 pub mod Grammar
 pub mod Held
-pub mod Pieces

@@ -1,7 +1,7 @@
 //! Words and the jobs that they ask for, words that ask for nothing, and the usage line.
 
 use super::*;
-use mill_io::MemSink;
+use mill_io::{Failed, MemSink, Sink};
 use mill_model::{Limits, OutOfMemory};
 use std::alloc::Global;
 use std::test::Fail;
@@ -215,6 +215,43 @@ fn drill_takes_each_option(rt: HostRuntime) -> Result<(), Fail> {
         };
         assert_eq!(rt; read_words(&words), Ok(job));
     }
+    Ok(())
+}
+
+// The lengths of the first two pieces that are written, and how many of these there are.
+#[derive(Drop)]
+struct PieceLengths {
+    lengths: [usize; 2],
+    count: usize,
+}
+
+impl Sink for PieceLengths {
+    ghost use Rattle.std.specs.Prelude.{None};
+
+    ghost written = { λ _. None };
+
+    ghost held = { λ _. None };
+
+    ghost faults = { λ _. 0 };
+
+    fn write_all(&mut self, piece: &[u8]) -> Result<(), Failed> {
+        if self.count < 2 {
+            self.lengths[self.count] = piece.len();
+            self.count += 1;
+        }
+        Ok(())
+    }
+}
+
+#[test]
+fn the_usage_line_is_one_piece(rt: HostRuntime) -> Result<(), Fail> {
+    let mut pieces = PieceLengths {
+        lengths: [0; 2],
+        count: 0,
+    };
+    assert_eq!(rt; write_usage(&mut pieces), Ok(()));
+    assert_eq!(rt; pieces.lengths, [USAGE.len(), 0]);
+    assert_eq!(rt; pieces.count, 1);
     Ok(())
 }
 

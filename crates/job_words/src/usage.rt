@@ -1,6 +1,7 @@
 //! The usage line, written from the tables of commands and options.
 ghost use Rattle.std.specs.Prelude.{ℕ, ◌++◌, flat_map, OnOk, OnErr};
 ghost use Rattle.std.specs.Io.KnownBytes.{Appends};
+ghost use Rattle.mill_io.specs.Blockwise.{PutsText};
 ghost use Rattle.mill_io.specs.Bytes.{AppendsFront, AppendsToBoth};
 ghost use Rattle.mill_io.specs.Causes.{HasCause};
 ghost use Rattle.job_words.specs.Usage.{between, usage_line};
@@ -8,9 +9,10 @@ ghost use Rattle.job_words.specs.Usage.{between, usage_line};
 use crate::command::COMMANDS;
 use crate::option::OPTIONS;
 use crate::table::Row;
-use mill_io::{Failed, Sink};
+use mill_io::{Block, Failed, Sink};
 
-/// Writes how the program is used, from the tables of commands and options. It takes no memory.
+/// Writes how the program is used, from the tables of commands and options, in one piece. It takes
+/// no memory.
 pub fn write_usage<K: Sink>(sink: &mut K) -> Result<(), Failed>
     ensures ok { OnOk result (Appends (K.written sink.old) (K.written sink.new) usage_line) }
     ensures err { OnErr result
@@ -19,44 +21,51 @@ pub fn write_usage<K: Sink>(sink: &mut K) -> Result<(), Failed>
         (K.held sink.old) (K.held sink.new) }
     ensures cause { HasCause (K.faults sink.old) (K.faults sink.new) result }
 {
-    write_names(sink, "usage: mill_slab ", &COMMANDS[..1], "")?;
-    write_names(sink, "|", &COMMANDS[1..], "")?;
-    write_names(sink, " [", &OPTIONS, " N]")?;
-    sink.write_all(b"\n")
+    let mut block = Block::new();
+    put_usage(sink, &mut block)?;
+    block.finish(sink)
 }
 
-// Writes each name between two texts.
-fn write_names<T, K: Sink>(
+// Puts the usage line in.
+fn put_usage<K: Sink>(sink: &mut K, block: &mut Block) -> Result<(), Failed>
+    ensures { PutsText K.written K.held K.faults sink.old sink.new block.old block.new
+        usage_line result }
+{
+    put_names(sink, block, "usage: mill_slab ", &COMMANDS[..1], "")?;
+    put_names(sink, block, "|", &COMMANDS[1..], "")?;
+    put_names(sink, block, " [", &OPTIONS, " N]")?;
+    block.put(sink, b"\n")
+}
+
+// Puts each name in, between two texts.
+fn put_names<T, K: Sink>(
     sink: &mut K,
+    block: &mut Block,
     before: &str,
     table: &[Row<T>],
     behind: &str,
 ) -> Result<(), Failed>
-    ensures ok { OnOk result (Appends (K.written sink.old) (K.written sink.new)
-        (flat_map (λ row. between before.now row.0.now behind.now) table.now)) }
-    ensures err { OnErr result (AppendsFront (K.written sink.old) (K.written sink.new)
-        (flat_map (λ row. between before.now row.0.now behind.now) table.now)) }
-    ensures held { AppendsToBoth (K.written sink.old) (K.written sink.new)
-        (K.held sink.old) (K.held sink.new) }
-    ensures cause { HasCause (K.faults sink.old) (K.faults sink.new) result }
+    ensures { PutsText K.written K.held K.faults sink.old sink.new block.old block.new
+        (flat_map (λ row. between before.now row.0.now behind.now) table.now) result }
 {
     for row in table {
-        write_name(sink, before, row.0, behind)?;
+        put_name(sink, block, before, row.0, behind)?;
     }
     Ok(())
 }
 
-// Writes a name between two texts.
-fn write_name<K: Sink>(sink: &mut K, before: &str, name: &str, behind: &str) -> Result<(), Failed>
-    ensures ok { OnOk result (Appends (K.written sink.old) (K.written sink.new)
-        (between before.now name.now behind.now)) }
-    ensures err { OnErr result (AppendsFront (K.written sink.old) (K.written sink.new)
-        (between before.now name.now behind.now)) }
-    ensures held { AppendsToBoth (K.written sink.old) (K.written sink.new)
-        (K.held sink.old) (K.held sink.new) }
-    ensures cause { HasCause (K.faults sink.old) (K.faults sink.new) result }
+// Puts a name in, between two texts.
+fn put_name<K: Sink>(
+    sink: &mut K,
+    block: &mut Block,
+    before: &str,
+    name: &str,
+    behind: &str,
+) -> Result<(), Failed>
+    ensures { PutsText K.written K.held K.faults sink.old sink.new block.old block.new
+        (between before.now name.now behind.now) result }
 {
-    sink.write_all(before.as_bytes())?;
-    sink.write_all(name.as_bytes())?;
-    sink.write_all(behind.as_bytes())
+    block.put(sink, before.as_bytes())?;
+    block.put(sink, name.as_bytes())?;
+    block.put(sink, behind.as_bytes())
 }

@@ -2,7 +2,9 @@
 -- publish, and a path is left only where more tickets were drawn than there are.
 use Rattle.std.proofs.Common.{ℕ, zero, suc, ◌<◌, ◌≤◌, ◌≡◌, ◌⊎◌, inl, inr, Bool, true, false}
 use Rattle.std.proofs.Common.{cond, not, ◌&&◌, List, length, Option, Some, None}
-use Rattle.std.proofs.Common.{refl, sym, ap, ◌∙◌, subst, arith}
+use Rattle.std.proofs.Common.{refl, sym, ap, ◌∙◌, subst, arith, get_or-set_same}
+use Rattle.std.proofs.Common.{get_or-set_other}
+use Rattle.std.proofs.lemmas.List.{set-get_or}
 use Rattle.std.specs.List.{list_all}
 use Rattle.list_laws.proofs.Tests.{and-left, and-right, clash, last-or-below}
 use Rattle.mill_model.specs.Charges.{ChargeTable}
@@ -18,7 +20,6 @@ use Rattle.search_step.specs.declared.parts.Phase.TheVariants.{Resting, Taking, 
 use Rattle.search_step.specs.declared.parts.Phase.TheVariants.{Halting, Ended, Bounding}
 use Rattle.search_step.specs.declared.parts.Phase.TheVariants.{Closing as ClosingNow, Publishing}
 use Rattle.search_step.specs.declared.parts.Phase.TheVariants.{Pushing}
-use Rattle.core_machine.proofs.Lists.{set-back, get-set, get-other}
 use Rattle.core_machine.proofs.Runs.{round-count, round-keeps, whole-round-keeps}
 use Rattle.core_machine.proofs.Steady.{steady-event}
 use Rattle.core_machine.specs.Core.{Core, Shared, any_busy, closed_held, deque, event, is_empty}
@@ -52,7 +53,7 @@ module _ (ranked : RankedOrders) (charges : ChargeTable) (budget : ℕ) where
         calm = ap is_calm is;
         over = inr (subst (λ (ws : List Parts).
             (list_all is_empty c.shared.deques && not (any_busy ws)) ≡ true)
-            (sym (set-back c.workers i no_worker)) d);
+            (sym (set-get_or c.workers i no_worker)) d);
       }
       rest-quiet is false false h d s = absurd (false-true s)
 
@@ -112,10 +113,10 @@ module _ (ranked : RankedOrders) (charges : ChargeTable) (budget : ℕ) where
         one j (inl e) =
             ap (λ n. is_calm (worker (event ranked charges budget c k).0 n).phase) e
             ∙ ap (λ (v : Parts). is_calm v.phase)
-            (get-set c.workers k (step ranked charges budget c k).1.0 no_worker l) ∙ q.calm
+            (get_or-set_same c.workers k (step ranked charges budget c k).1.0 no_worker l) ∙ q.calm
         one j (inr m) =
             ap (λ (v : Parts). is_calm v.phase)
-            (get-other c.workers k j (step ranked charges budget c k).1.0 no_worker
+            (get_or-set_other c.workers k j (step ranked charges budget c k).1.0 no_worker
             (λ e. absurd (omega (arith, m, e)))) ∙ before.calm j m
 
     abbrev Steady : Core → Type 0

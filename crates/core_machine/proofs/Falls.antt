@@ -4,8 +4,7 @@
 use Rattle.std.proofs.Common.{ℕ, zero, suc, ◌+◌, ◌*◌, ◌-◌, ◌<◌, ◌≤◌, ◌≡◌, ◌≢◌, ◌⊎◌, inl, inr}
 use Rattle.std.proofs.Common.{Bool, true, false, not, ◌&&◌, ◌||◌, eqb, List, [], ◌∷◌, length, set}
 use Rattle.std.proofs.Common.{get_or, refl, sym, ap, ◌∙◌, subst, arith, length-set, eqb-true}
-use Rattle.std.proofs.Common.{eq-eqb}
-use Rattle.std.proofs.Common.{mul-le-mul_right}
+use Rattle.std.proofs.Common.{eq-eqb, get_or-set_same, get_or-set_other, mul-le-mul_right}
 use Rattle.std.specs.List.{list_all}
 use Rattle.list_laws.specs.Sets.{total}
 use Rattle.list_laws.proofs.Sums.{total-cong}
@@ -14,7 +13,7 @@ use Rattle.mill_model.specs.Charges.{ChargeTable}
 use Rattle.order_symmetry.specs.Ranked.{RankedOrders, IsRanked}
 use Rattle.search_step.specs.Parts.{Parts}
 use Rattle.search_step.specs.declared.parts.Phase.{Phase}
-use Rattle.core_machine.proofs.Lists.{get-set, get-other, sum-set}
+use Rattle.core_machine.proofs.Lists.{sum-set}
 use Rattle.core_machine.proofs.Runs.{event-count, round-count, round-keeps}
 use Rattle.core_machine.proofs.Steady.{steady-event}
 use Rattle.core_machine.proofs.Work.{IsIdle, LowersOrIdles, event-lowers-or-idles}
@@ -114,10 +113,10 @@ module _ (ranked : RankedOrders) (charges : ChargeTable) (budget : ℕ) where
     w' = (step ranked charges budget c i).1.0
 
     at-i : worker (next c i) i ≡ w'
-    at-i = get-set c.workers i w' no_worker l
+    at-i = get_or-set_same c.workers i w' no_worker l
 
     at-other : (j : ℕ) → j ≢ i → worker (next c i) j ≡ worker c j
-    at-other j k = get-other c.workers i j w' no_worker k
+    at-other j k = get_or-set_other c.workers i j w' no_worker k
 
     same-count : length (next c i).workers ≡ length c.workers
     same-count = length-set c.workers i w'

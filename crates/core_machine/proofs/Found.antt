@@ -4,7 +4,7 @@
 use Rattle.std.proofs.Common.{ℕ, ◌<◌, ◌≤◌, ◌≡◌, ◌≢◌, ◌⊎◌, inl, inr, min, Bool, true, false, ltb}
 use Rattle.std.proofs.Common.{eqb, List, length, Option, Some, None, refl, sym}
 use Rattle.std.proofs.Common.{ap, ◌∙◌, subst, arith, ltb-true, ltb-false, length-set, eqb-true}
-use Rattle.std.proofs.Common.{eq-eqb}
+use Rattle.std.proofs.Common.{eq-eqb, get_or-set_same, get_or-set_other}
 use Rattle.list_laws.proofs.Tests.{either, clash}
 use Rattle.mill_model.specs.Charges.{ChargeTable}
 use Rattle.mill_model.specs.declared.limits.Draw.{Draw}
@@ -29,7 +29,6 @@ use Rattle.search_step.specs.declared.parts.Verdict.TheVariants.{Better, Plain, 
 use Rattle.search_step.specs.declared.parts.Verdict.TheVariants.{Open}
 use Rattle.search_step.proofs.Phases.{is-publishing}
 use Rattle.core_machine.proofs.Good.{event-honest}
-use Rattle.core_machine.proofs.Lists.{get-set, get-other}
 use Rattle.core_machine.proofs.Steady.{each-with}
 use Rattle.core_machine.specs.Core.{Core, Shared, closed_held, deque, event, no_worker, push_last}
 use Rattle.core_machine.specs.Core.{step, step_in, worker}
@@ -127,7 +126,7 @@ module _ (ranked : RankedOrders) (charges : ChargeTable) (budget : ℕ)
     | inl e ↦ (let same : p.number ≡ i = eqb-true _ _ e in
         let mine : w.best ≡ Some p.plan =
         subst (λ (j : ℕ). (worker c j).best ≡ Some p.plan) same p.keeps in
-        let at = get-set c.workers i m.1.0 no_worker l in
+        let at = get_or-set_same c.workers i m.1.0 no_worker l in
         elim honest.plan [
           | inl q ↦ record {
             number = i;
@@ -150,7 +149,7 @@ module _ (ranked : RankedOrders) (charges : ChargeTable) (budget : ℕ)
       number = p.number;
       there = (let n = same-count in let k = p.there in omega arith);
       plan = p.plan;
-      keeps = ap (λ (v : Parts). v.best) (get-other c.workers i p.number m.1.0 no_worker
+      keeps = ap (λ (v : Parts). v.best) (get_or-set_other c.workers i p.number m.1.0 no_worker
           (λ q. clash (eqb p.number i) (eq-eqb p.number i q) e)) ∙ p.keeps;
       at_most = p.at_most;
     }
@@ -216,7 +215,7 @@ module _ (ranked : RankedOrders) (charges : ChargeTable) (budget : ℕ)
             (m.0.least ≡ start) ⊎ HasPlan d m.0.least
         go true e k =
             let a : w.known < c.shared.least = ltb-true _ _ e in
-            let at = get-set c.workers i m.1.0 no_worker l in
+            let at = get_or-set_same c.workers i m.1.0 no_worker l in
             inr (record {
               number = i;
               there = (let n = same-count in omega arith);

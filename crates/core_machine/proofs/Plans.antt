@@ -4,7 +4,7 @@ use Rattle.std.proofs.Common.{◌∷◌, ◌++◌, length, map, eqb, ltb, leb, g
 use Rattle.std.proofs.Common.{◌∙◌, subst, arith, inl, inr, eqb-true, eq-eqb, ne_eqb, ltb-true}
 use Rattle.std.specs.List.{AllByRecursion, list_all}
 use Rattle.std.proofs.Math.Seq.{get_or-append_seam}
-use Rattle.std.proofs.lemmas.List.{get_or_append_left, length-map}
+use Rattle.std.proofs.lemmas.List.{get_or-map, get_or_append_left, length-map}
 use Rattle.list_laws.specs.Sets.{below}
 use Rattle.list_laws.proofs.Among.{Among, map-among}
 use Rattle.list_laws.proofs.Lists.{length-below}
@@ -20,7 +20,6 @@ use Rattle.order_symmetry.proofs.Plans.{Apart, IsFilled, filled-plan, rank-apart
 use Rattle.search_step.specs.Serving.{IsPathOf}
 use Rattle.search_step.specs.Steps.{IsPlanAt}
 use Rattle.search_step.proofs.Lengths.{tree-fits-path}
-use Rattle.core_machine.proofs.Lists.{get-map}
 use Rattle.core_machine.specs.Places.{number_at, plan_at}
 
 pub get-below : (n k : ℕ) → k < n → get_or (below n) k 0 ≡ k
@@ -75,7 +74,7 @@ module _ (ranked : RankedOrders) (known : IsRanked ranked) (path : List ℕ) whe
 
   at-place : (k : ℕ) → k < n → get_or (plan_at ranked path) k 0 ≡ number_at k ranked.placed path
   at-place k l =
-      get-map (λ place. number_at place ranked.placed path) (below n) k 0 0
+      get_or-map (λ place. number_at place ranked.placed path) (below n) k 0 0
       (omega (arith, l, length-below n))
       ∙ ap (λ place. number_at place ranked.placed path) (get-below n k l)
 

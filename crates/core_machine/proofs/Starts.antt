@@ -3,7 +3,7 @@ use Rattle.std.proofs.Common.{ℕ, zero, suc, ◌<◌, ◌≤◌, ◌≡◌, min
 use Rattle.std.proofs.Common.{length, set, get_or, replicate, Some, None, refl, sym, ap}
 use Rattle.std.proofs.Common.{◌∙◌, subst, arith, inl, length-set}
 use Rattle.std.specs.List.{AllByRecursion}
-use Rattle.std.proofs.lemmas.List.{length-map, length-replicate}
+use Rattle.std.proofs.lemmas.List.{get_or-map, length-map, length-replicate}
 use Rattle.list_laws.specs.Sets.{below, times, same_list}
 use Rattle.list_laws.proofs.Lists.{length-below}
 use Rattle.mill_model.specs.Charges.{ChargeTable}
@@ -16,7 +16,7 @@ use Rattle.search_step.specs.Steps.{IsSafe, task_at}
 use Rattle.search_step.specs.declared.parts.Phase.TheVariants.{Ended}
 use Rattle.search_step.proofs.Branches.{after-below, after-other}
 use Rattle.search_step.proofs.StaysHonest.{new-honest}
-use Rattle.core_machine.proofs.Lists.{all-of-map, all-replicate, all-set, get-map, sum-none}
+use Rattle.core_machine.proofs.Lists.{all-of-map, all-replicate, all-set, sum-none}
 use Rattle.core_machine.proofs.Plans.{get-below}
 use Rattle.core_machine.specs.Core.{first_state, new_workers, no_worker}
 use Rattle.core_machine.specs.Counts.{sum_of, own_count, split_count, tickets_of}
@@ -32,7 +32,7 @@ module _ (ranked : RankedOrders) (charges : ChargeTable) (workers orders loss : 
 
   new-at : (i : ℕ) → i < workers → get_or (new_workers workers orders loss) i no_worker ≡ new i
   new-at i l =
-      get-map new (below workers) i 0 no_worker (omega (arith, l, length-below workers))
+      get_or-map new (below workers) i 0 no_worker (omega (arith, l, length-below workers))
       ∙ ap new (get-below workers i l)
 
   module _ (drawn : ℕ) (paths : List (List ℕ)) where

@@ -3,6 +3,7 @@ use Rattle.std.proofs.Common.{ℕ, ◌+◌, ◌<◌, ◌≤◌, ◌≡◌, ◌�
 use Rattle.std.proofs.Common.{eqb, ltb, List, [], ◌∷◌, ◌++◌, length, set, get_or}
 use Rattle.std.proofs.Common.{Option, Some, None, refl, sym, ap, ◌∙◌, subst, arith, inl, inr}
 use Rattle.std.proofs.Common.{eqb-true, eq-eqb, ltb-true, ltb-false, length-set}
+use Rattle.std.proofs.Common.{get_or-set_same, get_or-set_other}
 use Rattle.std.specs.List.{AllByRecursion}
 use Rattle.list_laws.proofs.Among.{each-append}
 use Rattle.list_laws.proofs.Tests.{either, clash}
@@ -26,7 +27,7 @@ use Rattle.search_step.specs.declared.parts.Verdict.{Verdict}
 use Rattle.search_step.specs.declared.parts.Verdict.TheVariants.{Better, Plain, ByPrices, ByOther}
 use Rattle.search_step.specs.declared.parts.Verdict.TheVariants.{Open}
 use Rattle.search_step.proofs.Kept.{steps-keep}
-use Rattle.core_machine.proofs.Lists.{get-set, get-other, all-set, all-get-or, sum-set}
+use Rattle.core_machine.proofs.Lists.{all-set, all-get-or, sum-set}
 use Rattle.core_machine.proofs.Steps.{all-last, event-steps}
 use Rattle.core_machine.specs.Calls.{called}
 use Rattle.core_machine.specs.Core.{Core, Shared, any_busy, closed_held, deque, event, no_worker}
@@ -42,10 +43,10 @@ pub each-with : (P Q : ℕ → Parts → Type 0) (c : Core) (i : ℕ) (s : Share
 each-with P Q c i s m l each weaker new j k = elim (either (eqb j i)) [
   | inl e ↦ (let same : j ≡ i = eqb-true j i e in
       subst (λ (n : ℕ). Q n (get_or (set c.workers i m.0) n no_worker)) (sym same)
-      (subst (λ (w : Parts). Q i w) (sym (get-set c.workers i m.0 no_worker l)) new))
+      (subst (λ (w : Parts). Q i w) (sym (get_or-set_same c.workers i m.0 no_worker l)) new))
   | inr e ↦ (let n : length (set c.workers i m.0) ≡ length c.workers =
       length-set c.workers i m.0 in
-      subst (λ (w : Parts). Q j w) (sym (get-other c.workers i j m.0 no_worker
+      subst (λ (w : Parts). Q j w) (sym (get_or-set_other c.workers i j m.0 no_worker
       (λ q. clash (eqb j i) (eq-eqb j i q) e))) (weaker j (worker c j) (each j (omega arith))))
 ]
 

@@ -1,7 +1,9 @@
 -- A change of one deque, as a change of one list.
 use Rattle.std.proofs.Common.{◌≡◌, ℕ, zero, suc, ◌<◌, List, [], ◌∷◌, ◌++◌, length, set, get_or}
-use Rattle.std.proofs.Common.{Option, Some, None, MatchOption, option_to_list, replicate, refl, sym}
-use Rattle.std.proofs.Common.{ap, ◌∙◌, subst, append-nil, arith, ◌+◌}
+use Rattle.std.proofs.Common.{Option, Some, None, MatchOption, option_to_list, replicate, sym}
+use Rattle.std.proofs.Common.{ap, ◌∙◌, subst, append-nil, ◌+◌}
+use Rattle.std.proofs.lemmas.List.{get_or-map, length-map, map-set, map_push, nil_from_length}
+use Rattle.std.proofs.lemmas.List.{replicate_more, set-get_or}
 use Rattle.std.specs.List.{AllByRecursion}
 use Rattle.order_symmetry.specs.Ranked.{RankedOrders}
 use Rattle.search_step.specs.Moves.{last_of, front}
@@ -12,37 +14,27 @@ use Rattle.core_replay.specs.Lists.{AllInTree, DequeLists, PathDeque, list_at, l
 
 lists-set : (ds : List PathDeque) (i : ℕ) (q : PathDeque) →
     lists_of (set ds i q) ≡ set (lists_of ds) i q.items
-lists-set [] i q = refl
-lists-set (d ∷ ds) zero q = refl
-lists-set (d ∷ ds) (suc i) q = ap (λ l. d.items ∷ l) (lists-set ds i q)
+lists-set ds i q = map-set (λ (r : PathDeque). r.items) ds i q
 
 list-is : (ds : List PathDeque) (i : ℕ) (q : PathDeque) → i < length ds → q ≡ get_or ds i q →
     get_or (lists_of ds) i [] ≡ q.items
-list-is [] i q l e = absurd (omega arith)
-list-is (d ∷ ds) zero q l e = ap (λ (r : PathDeque). r.items) (sym e)
-list-is (d ∷ ds) (suc i) q l e = list-is ds i q (omega arith) e
+list-is ds i q l e =
+    get_or-map (λ (r : PathDeque). r.items) ds i q [] l ∙ ap (λ (r : PathDeque). r.items) (sym e)
 
 pub lists-length : (ds : List PathDeque) → length (lists_of ds) ≡ length ds
-lists-length [] = refl
-lists-length (d ∷ ds) = ap suc (lists-length ds)
+lists-length ds = length-map ds (λ (r : PathDeque). r.items)
 
 set-itself : (ds : List PathDeque) (i : ℕ) (q q' : PathDeque) → i < length ds →
     q ≡ get_or ds i q → q'.items ≡ q.items → lists_of (set ds i q') ≡ lists_of ds
-set-itself [] i q q' l e same = refl
-set-itself (d ∷ ds) zero q q' l e same =
-    ap (λ l. l ∷ lists_of ds) (same ∙ ap (λ (r : PathDeque). r.items) e)
-set-itself (d ∷ ds) (suc i) q q' l e same =
-    ap (λ l. d.items ∷ l) (set-itself ds i q q' (omega arith) e same)
-
-no-items : (xs : List (List ℕ)) → length xs ≡ 0 → xs ≡ []
-no-items [] e = refl
-no-items (x ∷ xs) e = absurd (omega arith)
+set-itself ds i q q' l e same =
+    lists-set ds i q' ∙ ap (set (lists_of ds) i) (same ∙ sym (list-is ds i q l e))
+    ∙ set-get_or (lists_of ds) i []
 
 -- what was taken from the back or the front
 took-back : (xs ys : List (List ℕ)) (r : Option (List ℕ)) → xs ≡ ys ++ option_to_list r →
     MatchOption r (length xs ≡ 0) (λ _. Unit {0}) → (r ≡ last_of xs) × (ys ≡ front xs)
 took-back xs ys None e n =
-    let z : xs ≡ [] = no-items xs n in
+    let z : xs ≡ [] = nil_from_length xs n in
     let y : ys ≡ [] = sym (append-nil ys) ∙ sym e ∙ z in
     (sym (ap last_of z), y ∙ sym (ap front z))
 took-back xs ys (Some x) e n =
@@ -51,7 +43,7 @@ took-back xs ys (Some x) e n =
 took-front : (xs ys : List (List ℕ)) (r : Option (List ℕ)) → xs ≡ option_to_list r ++ ys →
     MatchOption r (length xs ≡ 0) (λ _. Unit {0}) → (r ≡ first_of xs) × (ys ≡ tail_of xs)
 took-front xs ys None e n =
-    let z : xs ≡ [] = no-items xs n in
+    let z : xs ≡ [] = nil_from_length xs n in
     let y : ys ≡ [] = sym e ∙ z in
     (sym (ap first_of z), y ∙ sym (ap tail_of z))
 took-front xs ys (Some x) e n = (sym (ap first_of e), sym (ap tail_of e))
@@ -113,21 +105,11 @@ module _ (ranked : RankedOrders) (ds : List PathDeque) (i k : ℕ) (same : k ≡
 
 -- Deques without a path.
 
-lists-more : (ds : List PathDeque) (q : PathDeque) →
-    lists_of (ds ++ q ∷ []) ≡ lists_of ds ++ q.items ∷ []
-lists-more [] q = refl
-lists-more (d ∷ ds) q = ap (λ l. d.items ∷ l) (lists-more ds q)
-
-replicate-more : {X : Type 0} (n : ℕ) (x : X) → replicate n x ++ x ∷ [] ≡ replicate (suc n) x
-replicate-more zero x = refl
-replicate-more (suc n) x = ap (λ l. x ∷ l) (replicate-more n x)
-
 pub one-more-empty : (ds : List PathDeque) (q : PathDeque) (n : ℕ) → q.items ≡ [] →
     lists_of ds ≡ replicate n [] → lists_of (ds ++ q ∷ []) ≡ replicate (n + 1) []
 one-more-empty ds q n e h =
-    let s : n + 1 ≡ suc n = omega arith in
-    rw s (lists-more ds q ∙ ap (λ l. lists_of ds ++ l ∷ []) e ∙ ap (λ l. l ++ [] ∷ []) h
-    ∙ replicate-more n [])
+    map_push (λ (r : PathDeque). r.items) ds q ∙ ap (λ l. lists_of ds ++ l ∷ []) e
+    ∙ ap (λ l. l ++ [] ∷ []) h ∙ replicate_more n []
 
 pub empty-in-tree : (ranked : RankedOrders) (ds : List PathDeque) (n : ℕ) →
     lists_of ds ≡ replicate n [] → AllInTree ranked ds

@@ -1,7 +1,7 @@
 -- Lists of workers that go by the same, with their numbers.
 use Rattle.std.proofs.Common.{ℕ, zero, suc, ◌+◌, ◌≡◌, ◌<◌, true, false, List, []}
-use Rattle.std.proofs.Common.{◌∷◌, ◌++◌, length, set, get_or, Some, None, refl, sym, ap}
-use Rattle.std.proofs.Common.{subst, arith}
+use Rattle.std.proofs.Common.{◌∷◌, ◌++◌, length, set, get_or, Some, None, refl, sym, subst, arith}
+use Rattle.std.proofs.lemmas.List.{get_or-map, length-map, map-set}
 use Rattle.std.specs.List.{list_any}
 use Rattle.mill_model.specs.Charges.{ChargeTable}
 use Rattle.order_symmetry.specs.Ranked.{RankedOrders}
@@ -17,20 +17,15 @@ use Rattle.core_machine.specs.Core.{any_busy, is_busy, no_worker}
 use Rattle.core_replay.specs.Crew.{AreMembers, IsMember, has_path, parts_of}
 
 pub parts-length : (ws : List WorkerParts) → length (parts_of ws) ≡ length ws
-parts-length [] = refl
-parts-length (w ∷ ws) = ap suc (parts-length ws)
+parts-length ws = length-map ws (λ (w : WorkerParts). w.parts)
 
 pub parts-at : (ws : List WorkerParts) (i : ℕ) (w : WorkerParts) → i < length ws →
     get_or (parts_of ws) i no_worker ≡ (get_or ws i w).parts
-parts-at [] i w l = absurd (omega arith)
-parts-at (v ∷ ws) zero w l = refl
-parts-at (v ∷ ws) (suc i) w l = parts-at ws i w (omega arith)
+parts-at ws i w l = get_or-map (λ (v : WorkerParts). v.parts) ws i w no_worker l
 
 pub parts-set : (ws : List WorkerParts) (i : ℕ) (w : WorkerParts) →
     parts_of (set ws i w) ≡ set (parts_of ws) i w.parts
-parts-set [] i w = refl
-parts-set (v ∷ ws) zero w = refl
-parts-set (v ∷ ws) (suc i) w = ap (λ l. v.parts ∷ l) (parts-set ws i w)
+parts-set ws i w = map-set (λ (v : WorkerParts). v.parts) ws i w
 
 module _ (ranked : RankedOrders) (charges : ChargeTable) (workers : ℕ) where
   pub member-at : (n : ℕ) (ws : List WorkerParts) (i : ℕ) (w : WorkerParts) →

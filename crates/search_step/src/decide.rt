@@ -63,6 +63,7 @@ fn leaf_loss(node: &NodeState, charges: &Charges) -> u64
     ensures is { result ≡ groups_loss (charge_of charges.now) node.now }
     ensures kept { IsNode node.now }
 {
+    // The call brings into the proof that this is the node of a path.
     let _depth = node.depth();
     node.groups_loss(charges)
 }

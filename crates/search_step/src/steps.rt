@@ -186,6 +186,7 @@ impl Work {
         ensures serves { H.serves hand.new ≡ H.serves hand.old }
         ensures may { H.may_draw hand.new ≡ H.may_draw hand.old }
     {
+        // The loss before isn't needed: the worker looks anew before it closes its next path.
         let _before = hand.publish(self.known());
         self.go(Phase::Resting);
         Turn::Moved

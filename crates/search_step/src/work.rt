@@ -210,6 +210,7 @@ impl Work {
                 self.phase = Phase::Resting;
             }
             Verdict::ByPrices(prices) => {
+                // The call brings into the proof that each price is within its limits.
                 let _within = prices.list();
                 record(&mut self.piece, &mut self.held, Closing::Priced(prices));
                 self.phase = Phase::Resting;

@@ -1,10 +1,11 @@
 -- The thieves of a deque go back to its owner, one worker after another.
 use Rattle.std.proofs.Common.{◌≡◌, ◌≢◌, ℕ, zero, suc, ◌<◌, ◌+◌, ◌⊎◌, inl, inr, List, [], ◌∷◌}
 use Rattle.std.proofs.Common.{◌++◌, length, set, map, refl, sym, ap, ◌∙◌, subst, arith, All}
-use Rattle.std.proofs.Common.{length-append, length-set, sum_by, cond}
-use Rattle.std.proofs.lemmas.List.Sums.{sum_by-cons}
+use Rattle.std.proofs.Common.{length-append, length-set, get_or-set_other, sum_by, cond, Some}
+use Rattle.std.proofs.lemmas.Bool.{cases_eq}
+use Rattle.std.proofs.lemmas.List.{length-map, map_push, same_from_push}
 use Rattle.std.proofs.lemmas.List.Elements.{All-pop}
-use Rattle.std.proofs.Common.{Some}
+use Rattle.std.proofs.lemmas.List.Sums.{sum_by-cons}
 use Rattle.list_laws.specs.Sets.{times, same_list}
 use Rattle.list_laws.proofs.Times.{times-append}
 use Rattle.steal_deques.specs.Deque.{Balances, DequeOwner, DequeThief}
@@ -13,32 +14,17 @@ use Rattle.steal_workers.specs.Deques.{IsLastOfAll, IsLent}
 use Rattle.steal_workers.specs.Deques.{all_but, all_popped, all_pushed, all_stolen, thieves_of}
 use Rattle.steal_workers.specs.Deques.{home_of, homes_of}
 use Rattle.running_worker.specs.Worked.{stolen_count}
-use Rattle.core_machine.proofs.Lists.{get-other, map-length, sum-append, sum-set}
-use Rattle.steal_workers.proofs.Deals.{all-but-beyond, all-but-last, all-but-more, map-snoc}
-use Rattle.steal_workers.proofs.Deals.{others-more, others-same, same-or-other}
-
--- Lists that end with one thing.
-
-pub snoc-same : {X : Type 0} (xs ys : List X) (a b : X) → xs ++ a ∷ [] ≡ ys ++ b ∷ [] →
-    (xs ≡ ys) × (a ≡ b)
-snoc-same [] [] a b e = let head : a ≡ b = cc in (refl, head)
-snoc-same [] (y ∷ ys) a b e =
-    absurd (omega (arith, ap length e, length-append ys (b ∷ [])))
-snoc-same (x ∷ xs) [] a b e =
-    absurd (omega (arith, ap length e, length-append xs (a ∷ [])))
-snoc-same (x ∷ xs) (y ∷ ys) a b e =
-    let head : x ≡ y = cc in
-    let tail : xs ++ a ∷ [] ≡ ys ++ b ∷ [] = cc in
-    let rest = snoc-same xs ys a b tail in
-    ((λ i. head i ∷ rest.0 i), rest.1)
+use Rattle.core_machine.proofs.Lists.{sum-append, sum-set}
+use Rattle.steal_workers.proofs.Deals.{all-but-beyond, all-but-last, all-but-more}
+use Rattle.steal_workers.proofs.Deals.{others-more, others-same}
 
 -- the last of some thieves, where their homes end with its home
 pub last-home : (thieves rest : List DequeThief) (thief : DequeThief) (homes : List Home)
     (home : Home) → homes_of thieves ≡ homes ++ home ∷ [] → thieves ≡ rest ++ thief ∷ [] →
     (homes_of rest ≡ homes) × ((thief.deque, thief.ranked) ≡ home)
 last-home thieves rest thief homes home e is =
-    snoc-same (homes_of rest) homes (thief.deque, thief.ranked) home
-    (sym (map-snoc (λ (t : DequeThief). (t.deque, t.ranked)) rest thief) ∙ sym (ap homes_of is) ∙ e)
+    same_from_push (homes_of rest) homes (thief.deque, thief.ranked) home
+    (sym (map_push (λ (t : DequeThief). (t.deque, t.ranked)) rest thief) ∙ sym (ap homes_of is) ∙ e)
 
 pub some-last : (thieves : List DequeThief) (homes : List Home) (home : Home) →
     homes_of thieves ≡ homes ++ home ∷ [] → 0 < length thieves
@@ -84,10 +70,10 @@ module _ (own0 own1 : DequeOwner) (number t : ℕ) (before now : AllThieves)
       others = given;
       later = λ i m.
           ap (λ h. thieves_of h i) others
-          ∙ get-other now t i (thieves_of next t) [] (λ q. absurd (omega (arith, q, m)))
+          ∙ get_or-set_other now t i (thieves_of next t) [] (λ q. absurd (omega (arith, q, m)))
           ∙ so.given.later i (omega (arith, m));
       own = ap (λ h. thieves_of h number) others
-          ∙ get-other now t number (thieves_of next t) [] (λ q. n (sym q)) ∙ so.given.own;
+          ∙ get_or-set_other now t number (thieves_of next t) [] (λ q. n (sym q)) ∙ so.given.own;
     };
     stolen = λ x. omega (
       arith,
@@ -114,7 +100,8 @@ module _ (own0 own1 : DequeOwner) (number t : ℕ) (before now : AllThieves)
           (so.given.others i b k).1
               ∙ ap (λ h. h ++ (so.given.others i b k).0 ∷ [])
               (sym (ap (λ h. thieves_of h i) others
-              ∙ get-other now t i (thieves_of next t) [] (λ q. absurd (omega (arith, q, b))))),
+              ∙ get_or-set_other now t i (thieves_of next t) []
+              (λ q. absurd (omega (arith, q, b))))),
         )
       ]
 
@@ -145,27 +132,27 @@ module _ (own0 own1 : DequeOwner) (number t : ℕ) (before now : AllThieves)
 module _ (owns : List DequeOwner) (own : DequeOwner) (before : AllThieves)
     (has : AreOfAll (owns ++ own ∷ []) before) where
   homes-there : map home_of (owns ++ own ∷ []) ≡ map home_of owns ++ home_of own ∷ []
-  homes-there = map-snoc home_of owns own
+  homes-there = map_push home_of owns own
 
   other-home : (i : ℕ) → i < length before → i ≢ length owns →
       homes_of (thieves_of before i) ≡ all_but i (map home_of owns) ++ home_of own ∷ []
   other-home i l n =
       has i l ∙ ap (all_but i) homes-there
-      ∙ all-but-more (map home_of owns) (home_of own) i (λ q. n (q ∙ map-length home_of owns))
+      ∙ all-but-more (map home_of owns) (home_of own) i (λ q. n (q ∙ length-map owns home_of))
 
   pub last-of-all : IsLastOfAll (length owns) own before
   last-of-all = record { others = λ i l n. (all_but i (map home_of owns), other-home i l n) }
 
   pub of-all-less : (after : AllThieves) → GivesOne (length owns) (length before) before after →
       AreOfAll owns after
-  of-all-less after gives i m = elim (same-or-other i (length owns)) [
+  of-all-less after gives i m = elim (cases_eq i (length owns)) [
     | inl e ↦ rw e (
         ap homes_of gives.own ∙ has (length owns) (omega (arith, ap (λ n. n) e, m, gives.count))
         ∙ ap (all_but (length owns)) homes-there
         ∙ subst (λ n. all_but n (map home_of owns ++ home_of own ∷ []) ≡ map home_of owns)
-        (map-length home_of owns) (all-but-last (map home_of owns) (home_of own))
+        (length-map owns home_of) (all-but-last (map home_of owns) (home_of own))
         ∙ sym (all-but-beyond (map home_of owns) (length owns)
-        (omega (arith, map-length home_of owns))))
+        (omega (arith, length-map owns home_of))))
     | inr n ↦ (let l : i < length before = omega (arith, m, gives.count) in
         let given = gives.others i l n in
         (last-home (thieves_of before i) (thieves_of after i) given.0 (all_but i (map home_of owns))

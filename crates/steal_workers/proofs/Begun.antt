@@ -1,13 +1,13 @@
 -- What a round begins with: from new deques, of which the first has got some paths, and new seats.
 use Rattle.std.proofs.Common.{◌≡◌, ℕ, zero, suc, ◌<◌, ◌≤◌, ◌+◌, ◌++◌, List, [], ◌∷◌, length, map}
-use Rattle.std.proofs.Common.{get_or}
-use Rattle.std.proofs.Common.{refl, sym, ap, ◌∙◌, subst, arith, All, length-append}
+use Rattle.std.proofs.Common.{get_or, refl, sym, ap, ◌∙◌, subst, arith, All, append_assoc}
+use Rattle.std.proofs.Common.{length-append}
+use Rattle.std.proofs.lemmas.List.{get_or-map, length-map, map_push}
 use Rattle.std.proofs.lemmas.List.Elements.{All-cons, All-head, All-push, All-same}
 use Rattle.std.proofs.lemmas.List.Elements.{All-tail, All-weaker}
 use Rattle.std.specs.List.{AllByRecursion}
 use Rattle.list_laws.specs.Sets.{times, same_list}
 use Rattle.order_symmetry.specs.Ranked.{RankedOrders}
-use Rattle.core_machine.proofs.Lists.{get-map, map-length}
 use Rattle.shared_words.specs.Best.{LossSeat}
 use Rattle.shared_words.specs.Meter.{TicketSeat}
 use Rattle.steal_deques.specs.Deque.{DequeOwner, DequeThief}
@@ -32,7 +32,7 @@ module _ {X Y : Type 0} where
   all-of-mapped : (P : Y → Type 0) (f : X → Y) (xs : List X) → All P (map f xs) →
       All (λ x. P (f x)) xs
   all-of-mapped P f xs all k d l =
-      subst P (get-map f xs k d (f d) l) (all k (f d) (omega (arith, l, map-length f xs)))
+      subst P (get_or-map f xs k d (f d) l) (all k (f d) (omega (arith, l, length-map xs f)))
 
 all-but-short : {X : Type 0} (i : ℕ) (xs : List X) → i < length xs →
     length (all_but i xs) + 1 ≡ length xs
@@ -155,7 +155,7 @@ module _ (ranked : RankedOrders) (workers loss nodes : ℕ) (paths : List (List 
 
   count : length jobs ≡ workers
   count =
-      sym (map-length (λ (job : Job). job.own) jobs) ∙ ap length their_owns ∙ owns-count
+      sym (length-map jobs (λ (job : Job). job.own)) ∙ ap length their_owns ∙ owns-count
 
   ready : All (IsReady ranked workers) (job_owners jobs)
   ready =
@@ -174,7 +174,7 @@ module _ (ranked : RankedOrders) (workers loss nodes : ℕ) (paths : List (List 
   thieves-at : (k : ℕ) (d : Job) → k < length jobs →
       (get_or jobs k d).thieves.items ≡ all_but k (map new_thief dealt.owns.items)
   thieves-at k d l =
-      sym (get-map (λ (job : Job). job.thieves.items) jobs k d [] l)
+      sym (get_or-map (λ (job : Job). job.thieves.items) jobs k d [] l)
       ∙ dealt-thieves k (omega (arith, l, count))
 
   is-job : All (IsJobOf ranked round) jobs
@@ -196,8 +196,8 @@ module _ (ranked : RankedOrders) (workers loss nodes : ℕ) (paths : List (List 
           arith,
           ap length thieves,
           all-but-short k (map new_thief dealt.owns.items)
-              (omega (arith, l, count, map-length new_thief dealt.owns.items, are.owners)),
-          map-length new_thief dealt.owns.items,
+              (omega (arith, l, count, length-map dealt.owns.items new_thief, are.owners)),
+          length-map dealt.owns.items new_thief,
           are.owners,
           opened.workers_are,
         );
@@ -229,7 +229,7 @@ module _ (ranked : RankedOrders) (workers loss nodes : ℕ) (paths : List (List 
           arith,
           l,
           count,
-          map-length (λ (job : Job). job.thieves.items) jobs,
+          length-map jobs (λ (job : Job). job.thieves.items),
         )))
         ∙ all-but-map (λ (t : DequeThief). (t.deque, t.ranked)) i
         (map new_thief dealt.owns.items)
@@ -247,12 +247,9 @@ module _ (ranked : RankedOrders) (workers loss nodes : ℕ) (paths : List (List 
 
 pub mapped-more : {X Y : Type 0} (f : X → Y) (xs xs' : List X) (x : X) (ys rest all : List Y) →
     xs' ≡ xs ++ x ∷ [] → map f xs ++ ys ≡ all → ys ≡ f x ∷ rest → map f xs' ++ rest ≡ all
-mapped-more {X = X} f xs xs' x ys rest all e so first =
-    ap (λ l. map f l ++ rest) e ∙ go xs ∙ ap (λ l. map f xs ++ l) (sym first) ∙ so
-  where
-    go : (xs : List X) → map f (xs ++ x ∷ []) ++ rest ≡ map f xs ++ f x ∷ rest
-    go [] = refl
-    go (y ∷ xs) = ap (λ l. f y ∷ l) (go xs)
+mapped-more f xs xs' x ys rest all e so first =
+    ap (λ l. map f l ++ rest) e ∙ ap (λ l. l ++ rest) (map_push f xs x)
+    ∙ append_assoc (map f xs) (f x ∷ []) rest ∙ ap (λ l. map f xs ++ l) (sym first) ∙ so
 
 -- its number is below their number
 pub number-fits : (number : ℕ) (jobs : List Job) (own : DequeOwner)
@@ -265,7 +262,7 @@ number-fits number jobs own owns rest all e so first =
       ap length so,
       ap length first,
       length-append (job_owners jobs) owns,
-      map-length (λ (job : Job). job.own) jobs,
+      length-map jobs (λ (job : Job). job.own),
     )
 
 pub all-numbered : (n : ℕ) (jobs jobs' : List Job) (job : Job) → jobs' ≡ jobs ++ job ∷ [] →

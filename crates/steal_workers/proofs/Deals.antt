@@ -1,11 +1,12 @@
 -- What each worker has once a further deque's thieves are dealt out.
-use Rattle.std.proofs.Common.{◌≡◌, ◌≢◌, ℕ, zero, suc, ◌<◌, ◌≤◌, ◌+◌, ◌⊎◌, inl, inr}
+use Rattle.std.proofs.Common.{◌≡◌, ◌≢◌, ℕ, zero, suc, ◌<◌, ◌≤◌, ◌+◌, inl, inr}
 use Rattle.std.proofs.Common.{List, [], ◌∷◌, ◌++◌, length, map, refl, sym, ap, ◌∙◌}
 use Rattle.std.proofs.Common.{subst, arith, All}
+use Rattle.std.proofs.lemmas.Bool.{cases_eq}
 use Rattle.std.proofs.lemmas.Bool.Decides.{nat_tests}
+use Rattle.std.proofs.lemmas.List.{length-map, map_push}
 use Rattle.std.proofs.lemmas.List.Elements.{All-push, All-same}
 use Rattle.order_symmetry.specs.Ranked.{RankedOrders}
-use Rattle.core_machine.proofs.Lists.{map-length}
 use Rattle.steal_deques.specs.Deque.{DequeOwner}
 use Rattle.steal_workers.specs.Deques.{AllThieves, DealsOne, HasNewThieves, IsNewOwner, all_but}
 use Rattle.steal_workers.specs.Deques.{new_thief, others_below}
@@ -38,41 +39,27 @@ all-but-more (y ∷ xs) x zero n = refl
 all-but-more (y ∷ xs) x (suc i) n =
     ap (λ l. y ∷ l) (all-but-more xs x i (λ e. n (ap suc e)))
 
-pub map-snoc : {X Y : Type 0} (f : X → Y) (xs : List X) (x : X) →
-    map f (xs ++ x ∷ []) ≡ map f xs ++ f x ∷ []
-map-snoc f [] x = refl
-map-snoc f (y ∷ xs) x = ap (λ l. f y ∷ l) (map-snoc f xs x)
-
-pub same-or-other : (i n : ℕ) → (i ≡ n) ⊎ (i ≢ n)
-same-or-other zero zero = inl refl
-same-or-other zero (suc n) = inr (λ e. absurd (omega (arith, e)))
-same-or-other (suc i) zero = inr (λ e. absurd (omega (arith, e)))
-same-or-other (suc i) (suc n) = elim (same-or-other i n) [
-  | inl e ↦ inl (ap suc e)
-  | inr k ↦ inr (λ e. k (omega (arith, e)))
-]
-
 -- with one deque more, each worker has a thief of every deque but its own
 pub has-one-more : (owns : List DequeOwner) (own : DequeOwner) (before after : AllThieves) →
     length owns < length before → HasNewThieves owns before →
     DealsOne (length owns) (length before) (new_thief own) before after →
     HasNewThieves (owns ++ own ∷ []) after
 has-one-more owns own before after l has deals i m =
-    elim (same-or-other i (length owns)) [
+    elim (cases_eq i (length owns)) [
       | inl e ↦ rw e (
           deals.own ∙ has (length owns) l
           ∙ all-but-beyond (map new_thief owns) (length owns)
-          (omega (arith, map-length new_thief owns))
+          (omega (arith, length-map owns new_thief))
           ∙ sym (subst
           (λ n. all_but n (map new_thief owns ++ new_thief own ∷ []) ≡ map new_thief owns)
-          (map-length new_thief owns) (all-but-last (map new_thief owns) (new_thief own)))
-          ∙ ap (all_but (length owns)) (sym (map-snoc new_thief owns own)))
+          (length-map owns new_thief) (all-but-last (map new_thief owns) (new_thief own)))
+          ∙ ap (all_but (length owns)) (sym (map_push new_thief owns own)))
       | inr n ↦
           deals.others i (omega (arith, m, deals.count)) n
           ∙ ap (λ h. h ++ new_thief own ∷ []) (has i (omega (arith, m, deals.count)))
           ∙ sym (all-but-more (map new_thief owns) (new_thief own) i
-          (λ q. n (q ∙ map-length new_thief owns)))
-          ∙ ap (all_but i) (sym (map-snoc new_thief owns own))
+          (λ q. n (q ∙ length-map owns new_thief)))
+          ∙ ap (all_but i) (sym (map_push new_thief owns own))
     ]
 
 module _ (owns : List DequeOwner) (own own' : DequeOwner) (ranked : RankedOrders) (workers : ℕ)

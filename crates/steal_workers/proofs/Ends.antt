@@ -1,9 +1,8 @@
 -- What the jobs of a round come to at their ends, job by job.
 use Rattle.std.proofs.Common.{◌≡◌, ℕ, zero, suc, ◌<◌, ◌≤◌, ◌+◌, ◌++◌, List, [], ◌∷◌, length}
-use Rattle.std.proofs.Common.{map}
-use Rattle.std.proofs.Common.{flat_map, get_or, option_to_list, refl, sym, ap, ap₂, ◌∙◌, subst}
-use Rattle.std.proofs.Common.{arith}
-use Rattle.std.proofs.Common.{All, Contains, IfOk, Ok, Result}
+use Rattle.std.proofs.Common.{map, flat_map, get_or, option_to_list, refl, sym, ap, ap₂, ◌∙◌, subst}
+use Rattle.std.proofs.Common.{arith, All, Contains, IfOk, Ok, Result}
+use Rattle.std.proofs.lemmas.List.{length-map}
 use Rattle.std.proofs.lemmas.List.Elements.{All-contains, All-cons, All-head, All-tail}
 use Rattle.std.specs.List.{AllByRecursion, AllZip}
 use Rattle.mill_model.specs.Charges.{ChargeTable}
@@ -19,7 +18,6 @@ use Rattle.core_machine.specs.Core.{unclosed_by}
 use Rattle.core_machine.specs.Counts.{own_count, split_count, sum_of, tickets_of}
 use Rattle.core_machine.specs.Kept.{best_of}
 use Rattle.core_machine.proofs.Bests.{best-at-most-kept}
-use Rattle.core_machine.proofs.Lists.{map-length}
 use Rattle.steal_deques.specs.Deque.{DequeOwner, DequeThief}
 use Rattle.running_worker.specs.Worked.{HasWorked, LosesAtMost, SameThieves}
 use Rattle.running_worker.specs.declared.job.Job.{Job}
@@ -265,8 +263,8 @@ module _ (ranked : RankedOrders) (charges : ChargeTable) (round : Round) where
             ∙ begins.thieves i (omega (
               arith,
               l,
-              map-length (λ (end : JobEnd). end.thieves.items) ends,
-              map-length (λ (job : Job). job.thieves.items) jobs,
+              length-map ends (λ (end : JobEnd). end.thieves.items),
+              length-map jobs (λ (job : Job). job.thieves.items),
               long,
               begins.count,
             ))
@@ -279,4 +277,4 @@ pub lent-again : (ends : List JobEnd) (owns : List DequeOwner) → owns ≡ end_
 lent-again ends owns e lent =
     subst (λ os. All (IsLent (length os)) os) (sym e)
     (subst (λ n. All (IsLent n) (end_owners ends))
-    (sym (map-length (λ (end : JobEnd). end.own) ends)) lent)
+    (sym (length-map ends (λ (end : JobEnd). end.own))) lent)

@@ -1,9 +1,9 @@
 -- What a round leaves is a run that can be gone on from, and that goes on from the given one: the
 -- ends of its jobs and deques make a state at which workers may stop.
 use Rattle.std.proofs.Common.{◌≡◌, ℕ, ◌<◌, ◌≤◌, ◌-◌, ◌++◌, inl, inr, true}
-use Rattle.std.proofs.Common.{min, List}
-use Rattle.std.proofs.Common.{[], ◌∷◌, length, flat_map, refl, sym, ap, ◌∙◌, subst, arith}
-use Rattle.std.proofs.Common.{append-nil}
+use Rattle.std.proofs.Common.{min, List, [], ◌∷◌, length, flat_map, refl, sym, ap, ◌∙◌, subst}
+use Rattle.std.proofs.Common.{arith, append-nil}
+use Rattle.std.proofs.lemmas.List.{length-map}
 use Rattle.std.specs.List.{AllByRecursion}
 use Rattle.list_laws.specs.Sets.{times, same_list}
 use Rattle.list_laws.proofs.Among.{each-append, each-weaker}
@@ -23,7 +23,6 @@ use Rattle.core_machine.specs.Ends.{is_calm}
 use Rattle.core_machine.specs.Kept.{IsGood, MayStop, best_of}
 use Rattle.core_machine.specs.Left.{IsLeftAfter}
 use Rattle.core_machine.proofs.Bests.{best-at-most}
-use Rattle.core_machine.proofs.Lists.{map-length}
 use Rattle.core_machine.proofs.Left.{run-at-most, run-goes-on, run-resumable}
 use Rattle.core_machine.proofs.Stops.{each-of-all, found-by-best}
 use Rattle.running_worker.specs.declared.job.Job.{Job}
@@ -71,7 +70,7 @@ module _ (ranked : RankedOrders) (charges : ChargeTable) (workers budget : ℕ) 
     | inl start ↦ omega (arith, start, opened.start, best-at-most (start_of given) ws)
     | inr published ↦ published-kept ranked charges round (start_of given) ended.closed.least
         published.number jobs ends worked
-        (subst (λ n. published.number < n) (map-length end_seats ends) published.there)
+        (subst (λ n. published.number < n) (length-map ends end_seats) published.there)
         published.by
   ]
 

@@ -1,5 +1,6 @@
-//! Tests of the whole program that need its inside: sources and sinks that fail, and grids of small
-//! instances against a plain reading. Rows of words, input, output and status stand in rows/.
+//! Tests of the whole program that need its inside: sources and sinks that fail, and such as never
+//! do, and grids of small instances against a plain reading. Rows of words, input, output and status
+//! stand in rows/.
 #![tactic(auto)]
 
 #[cfg(test)]
@@ -12,5 +13,7 @@ mod kept;
 mod least;
 #[cfg(test)]
 mod small_run;
+#[cfg(test)]
+mod steady;
 #[cfg(test)]
 mod threads;

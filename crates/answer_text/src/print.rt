@@ -75,21 +75,21 @@ fn put_lines<K: Sink>(sink: &mut K, block: &mut Block, answer: &Answer) -> Resul
             plan,
             refutation,
         } => {
-            put_planned(sink, block, b"optimal\nloss ", *loss, plan)?;
+            put_loss_and_plan(sink, block, b"optimal\nloss ", *loss, plan)?;
             put_refutation(sink, block, refutation)
         }
         Answer::Feasible { loss, plan, spent } => {
-            put_planned(sink, block, b"feasible\nloss ", *loss, plan)?;
-            put_line(sink, block, b"spent ", *spent)
+            put_loss_and_plan(sink, block, b"feasible\nloss ", *loss, plan)?;
+            put_named_line(sink, block, b"spent ", *spent)
         }
         Answer::Infeasible { order } => {
-            put_line(sink, block, b"infeasible\norder ", u64::from(*order) + 1)
+            put_named_line(sink, block, b"infeasible\norder ", u64::from(*order) + 1)
         }
     }
 }
 
 // Puts words and what a plan loses in, and the line of the plan.
-fn put_planned<K: Sink>(
+fn put_loss_and_plan<K: Sink>(
     sink: &mut K,
     block: &mut Block,
     name: &[u8],
@@ -122,7 +122,7 @@ fn put_refutation<K: Sink>(
 }
 
 // Puts words and a number in, and a line feed.
-fn put_line<K: Sink>(
+fn put_named_line<K: Sink>(
     sink: &mut K,
     block: &mut Block,
     name: &[u8],

@@ -83,15 +83,18 @@ fn refuses_at_the_first_wrong_line(rt: HostRuntime) -> Result<(), Fail> {
     Ok(())
 }
 
-// An optimal answer for 1024 orders on one slab, whose log has one line with 1024 prices.
-fn long_text(alloc: Global) -> Result<Vec<u8>, OutOfMemory> {
+// An optimal answer for 1024 orders on one slab, whose log has one line with prices: so many of
+// each of these.
+fn long_text(alloc: Global, prices: &[(usize, &str)]) -> Result<Vec<u8>, OutOfMemory> {
     let mut text = b"optimal\nloss 0\nplan".to_vec(alloc)?;
     for _ in 0..1024 {
         text.extend_from_slice(b" 1")?;
     }
     text.extend_from_slice(b"\nlog 1 1\nP 0")?;
-    for _ in 0..1024 {
-        text.extend_from_slice(b" -20000000000")?;
+    for &(count, price) in prices {
+        for _ in 0..count {
+            text.extend_from_slice(price.as_bytes())?;
+        }
     }
     text.extend_from_slice(b"\nend\n")?;
     Ok(text)
@@ -127,21 +130,37 @@ impl Sink for PieceLengths {
 #[test]
 fn a_long_answer_is_written_in_blocks(rt: HostRuntime) -> Result<(), Fail> {
     let alloc = rt.alloc();
-    let text = long_text(alloc)?;
+    let text = long_text(alloc, &[(1024, " -20000000000")])?;
     let answer = answer_of(alloc, 1024, &text)?;
     let mut whole = VecSink::new(alloc);
     assert_eq!(rt; write_answer(&mut whole, &answer), Ok(()));
     assert!(rt; whole.into_bytes() == text);
     assert!(rt; print_answer(alloc, &answer)? == text);
-
-    let mut pieces = PieceLengths {
-        lengths: [0; 8],
-        count: 0,
-    };
-    assert_eq!(rt; write_answer(&mut pieces, &answer), Ok(()));
-    assert_eq!(rt; pieces.lengths, [4096, 4096, 4096, 3108, 0, 0, 0, 0]);
     let rooms = [0, 1, 4095, 4096, 4097, 8192, 12288, 15395, 15396];
     assert!(rt; is_written_up_to_each_room(alloc, &answer, &text, &rooms)?);
+    Ok(())
+}
+
+// Beside its prices a text has 2084 bytes. Each row: how many prices of each there are, and the
+// lengths of the pieces that are written. Only the last is short, and none is empty.
+#[test]
+fn only_the_last_piece_is_short(rt: HostRuntime) -> Result<(), Fail> {
+    let alloc = rt.alloc();
+    let rows: [(&[(usize, &str)], &[usize]); 3] = [
+        (&[(1024, " -20000000000")], &[4096, 4096, 4096, 3108]),
+        (&[(988, " 10000"), (36, " 1000")], &[4096, 4096]),
+        (&[(989, " 10000"), (35, " 1000")], &[4096, 4096, 1]),
+    ];
+    for (prices, want) in rows {
+        let text = long_text(alloc, prices)?;
+        let answer = answer_of(alloc, 1024, &text)?;
+        let mut pieces = PieceLengths {
+            lengths: [0; 8],
+            count: 0,
+        };
+        assert_eq!(rt; write_answer(&mut pieces, &answer), Ok(()));
+        assert_eq!(rt; &pieces.lengths[..pieces.count.min(8)], want);
+    }
     Ok(())
 }
 

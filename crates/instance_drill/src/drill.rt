@@ -4,17 +4,14 @@ ghost use Rattle.mill_model.specs.Instance.{largest};
 ghost use Rattle.mill_model.specs.declared.order.TheConstants.{MAX_ORDERS};
 ghost use Rattle.instance_drill.specs.Drilled.{drilled, orders_from};
 
-use crate::draws::Draws;
+use crate::draws::{COLOURS, Draws};
 use mill_model::{Instance, Order, OutOfMemory};
 use std::alloc::Global;
 
-// The sizes of the slabs of each instance.
+// The sizes of the slabs of each instance: those of the instance that CSPLib gives.
 const SIZES: [u32; 20] = [
     12, 14, 17, 18, 19, 20, 23, 24, 25, 26, 27, 28, 29, 30, 32, 35, 39, 42, 43, 44,
 ];
-
-// The number of colours that each instance states.
-const COLOURS: u16 = 20;
 
 /// The instance of so many orders that a seed gives, where a slab may carry `p` colours. None of
 /// its orders is heavier than the largest size.

@@ -21,8 +21,8 @@ number_of None = 0
 number_of (Some order) = order + 1
 
 -- a path of a log: what is wrong there, how many groups it has, and these
-abbrev pub rejected_path : List ℕ → List ℕ → List ℕ
-rejected_path fault path =
+abbrev pub wrong_path : List ℕ → List ℕ → List ℕ
+wrong_path fault path =
     codes "rejected " ++ fault ++ 32 ∷ decimal (length path)
     ++ flat_map (λ group. 32 ∷ ordinal group) path
 
@@ -40,6 +40,6 @@ words_of_judgement (LossDiffers stated found) =
 words_of_judgement (OrderDiffers stated found) =
     codes "rejected order stated " ++ decimal (stated + 1)
     ++ codes " found " ++ decimal (number_of found)
-words_of_judgement (Missing path) = rejected_path (codes "missing") path
-words_of_judgement (Stray path) = rejected_path (codes "stray") path
-words_of_judgement (Unsound path) = rejected_path (codes "unsound") path
+words_of_judgement (Missing path) = wrong_path (codes "missing") path
+words_of_judgement (Stray path) = wrong_path (codes "stray") path
+words_of_judgement (Unsound path) = wrong_path (codes "unsound") path

@@ -4,7 +4,7 @@ ghost use Rattle.mill_io.specs.Blockwise.{PutsText};
 ghost use Rattle.reply_text.specs.Judgement.{is_accepted, number_of, words_of_judgement};
 ghost use Rattle.line_text.specs.Numbers.{ordinal};
 
-use crate::line::put_both;
+use crate::line::put_two_named;
 use line_text::{put_named, put_ordinals};
 use mill_io::{Block, Failed, Sink};
 use mill_model::Path;
@@ -71,7 +71,7 @@ impl Judgement {
                 )
             }
             Judgement::Heavy { slab, load } => {
-                put_counted(
+                put_rejected(
                     sink,
                     block,
                     b"rejected heavy slab ",
@@ -82,7 +82,7 @@ impl Judgement {
             }
             Judgement::Colourful { slab, colours } => {
                 let count = *colours as u64;
-                put_counted(
+                put_rejected(
                     sink,
                     block,
                     b"rejected colourful slab ",
@@ -92,7 +92,7 @@ impl Judgement {
                 )
             }
             Judgement::LossDiffers { stated, found } => {
-                put_both(
+                put_two_named(
                     sink,
                     block,
                     b"rejected loss stated ",
@@ -103,7 +103,7 @@ impl Judgement {
             }
             Judgement::OrderDiffers { stated, found } => {
                 let first = number_of(*found);
-                put_counted(
+                put_rejected(
                     sink,
                     block,
                     b"rejected order stated ",
@@ -112,9 +112,9 @@ impl Judgement {
                     first,
                 )
             }
-            Judgement::Missing { path } => put_path(sink, block, b"rejected missing ", path),
-            Judgement::Stray { path } => put_path(sink, block, b"rejected stray ", path),
-            Judgement::Unsound { path } => put_path(sink, block, b"rejected unsound ", path),
+            Judgement::Missing { path } => put_wrong_path(sink, block, b"rejected missing ", path),
+            Judgement::Stray { path } => put_wrong_path(sink, block, b"rejected stray ", path),
+            Judgement::Unsound { path } => put_wrong_path(sink, block, b"rejected unsound ", path),
         }
     }
 }
@@ -129,9 +129,9 @@ fn number_of(order: Option<u16>) -> u64
     }
 }
 
-// Puts words and a number in, twice; the first is of a thing that is counted from 0, and is put in
-// as counted from 1.
-fn put_counted<K: Sink>(
+// Puts in what is rejected and why: words and a number, twice. The first number is of a thing that
+// is counted from 0, and is put in as counted from 1.
+fn put_rejected<K: Sink>(
     sink: &mut K,
     block: &mut Block,
     name: &[u8],
@@ -142,11 +142,11 @@ fn put_counted<K: Sink>(
     ensures { PutsText K.written K.held K.faults sink.old sink.new block.old block.new
         (name.now ++ decimal (thing + 1) ++ other.now ++ decimal count) result }
 {
-    put_both(sink, block, name, thing as u64 + 1, other, count)
+    put_two_named(sink, block, name, thing as u64 + 1, other, count)
 }
 
-// Puts words, the length of a path of a log and the path in.
-fn put_path<K: Sink>(
+// Puts words in, and the length and the numbers of a path of a log that is wrong there.
+fn put_wrong_path<K: Sink>(
     sink: &mut K,
     block: &mut Block,
     name: &[u8],

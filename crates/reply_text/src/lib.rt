@@ -11,6 +11,8 @@ mod solution;
 mod status;
 mod stop;
 mod summary;
+#[cfg(test)]
+mod tests;
 
 pub use judgement::Judgement;
 pub use laws::status_numbers;

@@ -4,8 +4,8 @@ ghost use Rattle.mill_io.specs.Blockwise.{PutsText};
 use line_text::put_named;
 use mill_io::{Block, Failed, Sink};
 
-/// Puts words and a number in, twice.
-pub fn put_both<K: Sink>(
+/// Puts two numbers in, each behind its words.
+pub fn put_two_named<K: Sink>(
     sink: &mut K,
     block: &mut Block,
     name: &[u8],

@@ -4,7 +4,7 @@ ghost use Rattle.mill_io.specs.Blockwise.{PutsText};
 ghost use Rattle.reply_text.specs.Refusal.{words_of_refusal};
 ghost use Rattle.reply_text.specs.declared.refusal.Refusal.TheVariants.{Instance, Answer};
 
-use crate::line::put_both;
+use crate::line::put_two_named;
 use answer_text::AnswerTextError;
 use instance_text::InstanceError;
 use line_text::put_named;
@@ -100,7 +100,7 @@ fn put_refused_answer<K: Sink>(
             block.put(sink, b" not rising")
         }
         AnswerTextError::CountDiffers { stated, found } => {
-            put_both(
+            put_two_named(
                 sink,
                 block,
                 b"refused answer count stated ",

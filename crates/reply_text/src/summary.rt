@@ -5,7 +5,7 @@ ghost use Rattle.line_text.specs.Lines.{text_of};
 ghost use Rattle.reply_text.specs.Summary.{first_line, lines_of_ending, lines_of_summary};
 ghost use Rattle.reply_text.specs.Summary.{run_behind, status_of_ending};
 
-use crate::line::put_both;
+use crate::line::put_two_named;
 use crate::{FEASIBLE, OPTIMAL};
 use line_text::put_named;
 use mill_io::{Block, Failed, Sink};
@@ -63,7 +63,7 @@ impl Ending {
                 block.put(sink, b"\nend\n")
             }
             Ending::Feasible { loss, spent, .. } => {
-                put_both(sink, block, b"feasible\nloss ", *loss, b"\nspent ", *spent)?;
+                put_two_named(sink, block, b"feasible\nloss ", *loss, b"\nspent ", *spent)?;
                 block.put(sink, b"\nend\n")
             }
         }
@@ -76,17 +76,17 @@ impl Summary {
         ensures { PutsText K.written K.held K.faults sink.old sink.new block.old block.new
             (text_of (lines_of_summary self.now)) result }
     {
-        self.put_first(sink, block)?;
+        self.put_first_line(sink, block)?;
         self.ending.put_lines(sink, block)
     }
 
     // Puts its first line in.
-    fn put_first<K: Sink>(&self, sink: &mut K, block: &mut Block) -> Result<(), Failed>
+    fn put_first_line<K: Sink>(&self, sink: &mut K, block: &mut Block) -> Result<(), Failed>
         ensures { PutsText K.written K.held K.faults sink.old sink.new block.old block.new
             (first_line self.now ++ 10 ∷ []) result }
     {
         let (seed, orders) = (u64::from(self.seed), u64::from(self.orders));
-        put_both(sink, block, b"drill seed ", seed, b" orders ", orders)?;
+        put_two_named(sink, block, b"drill seed ", seed, b" orders ", orders)?;
         put_named(sink, block, b" weight ", self.weight)?;
         block.put(sink, b"\n")
     }

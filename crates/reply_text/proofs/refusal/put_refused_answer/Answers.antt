@@ -14,4 +14,4 @@ returns-in_ok-put_named-in-NotRising g c =
     c.in_ok-put_named-in-NotRising.ensures c.put.ensures)
 
 pub returns-in-CountDiffers : goal.returns-in-CountDiffers
-returns-in-CountDiffers g c = rw c.in-CountDiffers.is c.put_both.ensures
+returns-in-CountDiffers g c = rw c.in-CountDiffers.is c.put_two_named.ensures

@@ -2,15 +2,15 @@ use Rattle.std.proofs.Common.{◌∷◌, ◌++◌, ◌∙◌, [], append_assoc, 
 use Rattle.std.specs.Prelude.{decimal}
 use Rattle.mill_io.proofs.Blockwise.{put-behind, put-fails, put-fails-behind}
 use Rattle.reply_text.proofs.Parts.{first-parts}
-use Rattle.reply_text.proofs.summary.Summary.put_first.Goals as goal
+use Rattle.reply_text.proofs.summary.Summary.put_first_line.Goals as goal
 
-pub returns-in_err-put_both : goal.returns-in_err-put_both
-returns-in_err-put_both g c =
+pub returns-in_err-put_two_named : goal.returns-in_err-put_two_named
+returns-in_err-put_two_named g c =
     put-fails _ _ _ _ _ _ _ _ _ ((codes " weight " ++ decimal c.args.self.now.weight) ++ 10 ∷ [])
     _ _ c.from_residual.result
     (first-parts c.args.self.now c.from-seed.result c.from-orders.result c.from-seed.ensures
     c.from-orders.ensures)
-    c.from_residual.ensures.0 c.in_err-put_both.ensures
+    c.from_residual.ensures.0 c.in_err-put_two_named.ensures
 
 pub returns-in_err-put_named : goal.returns-in_err-put_named
 returns-in_err-put_named g c =
@@ -18,7 +18,7 @@ returns-in_err-put_named g c =
     _ _ _ c.from_residual-in_err-put_named.result
     (first-parts c.args.self.now c.from-seed.result c.from-orders.result c.from-seed.ensures
     c.from-orders.ensures)
-    c.from_residual-in_err-put_named.ensures.0 c.in_ok-put_both.ensures
+    c.from_residual-in_err-put_named.ensures.0 c.in_ok-put_two_named.ensures
     c.in_err-put_named.ensures
 
 pub returns : goal.returns
@@ -29,6 +29,6 @@ returns g c =
     ∙ sym (append_assoc (codes "drill seed " ++ decimal c.from-seed.result ++ codes " orders "
     ++ decimal c.from-orders.result) (codes " weight " ++ decimal c.args.self.now.weight)
     (10 ∷ [])))
-    (put-behind _ _ _ _ _ _ _ _ _ _ _ _ _ _ refl c.in_ok-put_both.ensures
+    (put-behind _ _ _ _ _ _ _ _ _ _ _ _ _ _ refl c.in_ok-put_two_named.ensures
     c.in_ok-put_named.ensures)
     c.put.ensures

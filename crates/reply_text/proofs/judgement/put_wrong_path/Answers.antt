@@ -3,7 +3,7 @@ use Rattle.std.specs.Prelude.{decimal}
 use Rattle.line_text.specs.Numbers.{ordinal}
 use Rattle.mill_io.proofs.Blockwise.{put-behind, put-fails}
 use Rattle.reply_text.proofs.Parts.{path-parts}
-use Rattle.reply_text.proofs.judgement.put_path.Goals as goal
+use Rattle.reply_text.proofs.judgement.put_wrong_path.Goals as goal
 
 pub returns-in_err-put_named : goal.returns-in_err-put_named
 returns-in_err-put_named g c =

@@ -1,7 +1,7 @@
 use Rattle.std.proofs.Common.{◌++◌, append_assoc}
 use Rattle.std.specs.Prelude.{decimal}
 use Rattle.mill_io.proofs.Blockwise.{put-behind, put-fails}
-use Rattle.reply_text.proofs.line.put_both.Goals as goal
+use Rattle.reply_text.proofs.line.put_two_named.Goals as goal
 
 pub returns-in_err-put_named : goal.returns-in_err-put_named
 returns-in_err-put_named g c =

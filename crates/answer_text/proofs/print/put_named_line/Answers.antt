@@ -1,7 +1,7 @@
 use Rattle.std.proofs.Common.{◌∷◌, [], append_assoc, sym}
 use Rattle.std.specs.Fmt.{decimal}
 use Rattle.mill_io.proofs.Blockwise.{put-behind, put-fails}
-use Rattle.answer_text.proofs.print.put_line.Goals as goal
+use Rattle.answer_text.proofs.print.put_named_line.Goals as goal
 
 pub returns-in_err-put_named : goal.returns-in_err-put_named
 returns-in_err-put_named g c =

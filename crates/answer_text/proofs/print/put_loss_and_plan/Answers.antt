@@ -3,7 +3,7 @@ use Rattle.std.specs.Fmt.{decimal}
 use Rattle.line_text.specs.Numbers.{ordinal}
 use Rattle.mill_io.proofs.Blockwise.{put-behind, put-fails, put-fails-behind}
 use Rattle.answer_text.proofs.Printed.{plan-parts}
-use Rattle.answer_text.proofs.print.put_planned.Goals as goal
+use Rattle.answer_text.proofs.print.put_loss_and_plan.Goals as goal
 
 pub returns-in_err-put_named : goal.returns-in_err-put_named
 returns-in_err-put_named g c =

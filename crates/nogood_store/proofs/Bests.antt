@@ -179,11 +179,13 @@ module _ (place_of : Key → Option ℕ) (entries : List Entry) (is : HasBest pl
           updates key ∙ ap (λ b. cond b (Some place) (place_of key)) (key_equal.symm e.key key)
 
       all : (key : Key) → entry_at (entries ++ e ∷ []) (more key) ≡ best (entries ++ e ∷ []) key
-      all key = ap (entry_at (entries ++ e ∷ [])) (turned key) ∙ elim (either (same_key key e.key)) [
-        | inl s ↦ rw s (is-best ∙ sym (best-more entries e key
-            ∙ rw s (ap (λ r. better r e) (best-same entries key e.key s))))
-        | inr s ↦ rw s (stays key ∙ sym (best-more entries e key ∙ rw s refl))
-      ]
+      all key =
+          ap (entry_at (entries ++ e ∷ [])) (turned key)
+          ∙ elim (either (same_key key e.key)) [
+            | inl s ↦ rw s (is-best ∙ sym (best-more entries e key
+                ∙ rw s (ap (λ r. better r e) (best-same entries key e.key s))))
+            | inr s ↦ rw s (stays key ∙ sym (best-more entries e key ∙ rw s refl))
+          ]
 
       longer : length (entries ++ e ∷ []) ≡ length entries + 1
       longer = length-append entries (e ∷ [])

@@ -61,7 +61,8 @@ module _ (ranked : RankedOrders) (charges : ChargeTable) (mill : FitsMill ranked
   second-within : All IsPrice (second_prices (task_at ranked charges) path)
   second-within =
       swept-prices-stay-within ranked.mill (charge_of charges) (orders_of ranked) path
-      (first_prices (task_at ranked charges) path) (charge-small charges.list charges.limit) tree.is each-fits
+      (first_prices (task_at ranked charges) path) (charge-small charges.list charges.limit)
+      tree.is each-fits
       (ascent-prices-are-valid ranked.mill (charge_of charges) (orders_of ranked) path tree.is)
       first-within
 

@@ -1,6 +1,6 @@
 //! Tests of the whole program that need its inside: sources and sinks that fail, and such as never
-//! do, and grids of small instances against a plain reading. Rows of words, input, output and status
-//! stand in rows/.
+//! do, and grids of small instances against a plain reading. Rows of words, input, output and
+//! status stand in rows/.
 #![tactic(auto)]
 
 #[cfg(test)]

@@ -1,3 +1,4 @@
+-- The thieves of a deque are taken from the other workers, each of which has one last.
 use Rattle.std.proofs.Common.{rules, ◌∙◌, ap, sym}
 use Rattle.steal_deques.specs.Deque.{DequeOwner}
 use Rattle.steal_workers.specs.Deques.{Home, home_of, thieves_in, thieves_of}

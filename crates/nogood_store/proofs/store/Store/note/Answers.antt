@@ -1,3 +1,5 @@
+-- The entry is noted behind the others, with the number of its key, and each key keeps the place of
+-- its best entry.
 use Rattle.std.proofs.Common.{rules, ◌≡◌, ◌<◌, ◌++◌, ◌∷◌, [], List, ℕ, Some, IfSome, length, cond}
 use Rattle.std.proofs.Common.{sym, ap, ◌∙◌, subst, arith}
 use Rattle.std.proofs.lemmas.List.{length-map}

@@ -1,3 +1,5 @@
+-- A key has the place of its best entry, which is the one that is found where its dead loss is low
+-- enough.
 use Rattle.std.proofs.Common.{rules, ◌≡◌, ◌<◌, List, ℕ, Option, Some, None, length, sym, ap, ◌∙◌}
 use Rattle.std.proofs.Common.{subst, arith}
 use Rattle.std.proofs.lemmas.List.{length-map}
